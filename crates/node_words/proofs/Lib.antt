@@ -1,0 +1,4 @@
+pub mod Sizes
+pub mod FirstTables
+pub mod RoleLemmas
+pub mod OpeningWords

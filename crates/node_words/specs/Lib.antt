@@ -1,0 +1,5 @@
+pub mod Limits
+pub mod Faults
+pub mod Addresses
+pub mod Roles
+pub mod Opening
