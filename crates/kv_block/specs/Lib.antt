@@ -1,3 +1,4 @@
 pub mod Bytes
 pub mod Filled
 pub mod RoomyList
+pub mod Packing

@@ -97,6 +97,14 @@ impl Key {
     {
         &self.bytes[..self.len as usize]
     }
+
+    // The bytes, and zeros up to 64.
+    pub(crate) fn padded(&self) -> &[u8]
+        ensures value { result.now ≡ filled 64 self.now }
+        ensures len { length result.now ≡ 64 }
+    {
+        &self.bytes
+    }
 }
 
 impl PartialEq for Key {
@@ -168,6 +176,14 @@ impl Value {
         ensures bytes { AreBytes self.now }
     {
         &self.bytes[..self.len as usize]
+    }
+
+    // The bytes, and zeros up to 1,024.
+    pub(crate) fn padded(&self) -> &[u8]
+        ensures value { result.now ≡ filled 1024 self.now }
+        ensures len { length result.now ≡ 1024 }
+    {
+        &self.bytes
     }
 }
 

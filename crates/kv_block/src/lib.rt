@@ -5,8 +5,13 @@
 //! The crate stands on no other of this repository, and only the list `Changes` takes memory.
 #![tactic(auto)]
 
+pub mod block;
 pub mod bytes;
 pub mod changes;
 
+pub use block::{BLOCK_WORDS, Block, read_block, write_block};
 pub use bytes::{KEY_BYTES, Key, VALUE_BYTES, Value};
 pub use changes::{Change, Changes};
+
+#[cfg(test)]
+mod tests;
