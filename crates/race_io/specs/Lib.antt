@@ -1,0 +1,4 @@
+pub mod ByteList
+pub mod Counts
+pub mod Memory
+pub mod Transfer
