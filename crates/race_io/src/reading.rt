@@ -241,3 +241,78 @@ impl<R: Read> Source for ReaderSource<R> {
         }
     }
 }
+
+#[cfg(test)]
+mod tests {
+    use super::*;
+    use std::io;
+    use std::test::Fail;
+
+    // Gives two bytes, then fails, then gives one more, and then is at its end.
+    #[derive(Drop)]
+    struct Stutter {
+        turn: u8,
+    }
+
+    impl Read for Stutter {
+        fn read(&mut self, into: &mut [u8]) -> io::Result<usize> {
+            self.turn = self.turn.saturating_add(1);
+            let given: &[u8] = match self.turn {
+                1 => b"ab",
+                2 => return Err(io::Error::other("a fault in mid-stream")),
+                3 => b"c",
+                _ => b"",
+            };
+            let count = given.len().min(into.len());
+            into[..count].copy_from_slice(&given[..count]);
+            Ok(count)
+        }
+    }
+
+    #[test]
+    fn reader_that_fails_in_mid_stream(rt: HostRuntime) -> Result<(), Fail> {
+        let mut source = ReaderSource::new(Stutter { turn: 0 });
+        let first = take_all(rt.alloc(), &mut source, 10);
+        assert!(rt; matches!(first, Err(TakeFault::Failed)));
+        assert_eq!(rt; source.faults, 1);
+        let second = take_all(rt.alloc(), &mut source, 10)?;
+        assert_eq!(rt; second.as_slice(), b"c".as_slice());
+        assert_eq!(rt; source.faults, 1);
+        Ok(())
+    }
+
+    #[test]
+    fn memory_sources(rt: HostRuntime) -> Result<(), Fail> {
+        let none: &[u64] = &[];
+        let first: &[u64] = &[1];
+        let second: &[u64] = &[2];
+        for (fails, limit, taken) in [
+            (none, 10, Some(b"abcdef".as_slice())),
+            (none, 6, Some(b"abcdef".as_slice())),
+            (none, 4, Some(b"abcd".as_slice())),
+            (first, 10, None),
+            (second, 10, None),
+        ] {
+            let mut source = MemorySource::new(b"abcdef", fails);
+            match take_all(rt.alloc(), &mut source, limit) {
+                Ok(bytes) => assert_eq!(rt; Some(bytes.as_slice()), taken),
+                Err(fault) => assert!(rt; taken.is_none() && fault == TakeFault::Failed),
+            }
+        }
+        let mut clean = CleanSource::new(b"abcdef");
+        let bytes = take_all(rt.alloc(), &mut clean, 10)?;
+        assert_eq!(rt; bytes.as_slice(), b"abcdef".as_slice());
+        Ok(())
+    }
+
+    #[test]
+    fn bytes_grow(rt: HostRuntime) -> Result<(), Fail> {
+        let mut bytes = Bytes::new(rt.alloc());
+        assert!(rt; bytes.is_empty());
+        bytes.reserve()?;
+        bytes.push(7)?;
+        assert_eq!(rt; bytes.len(), 1);
+        assert_eq!(rt; *bytes.get(0), 7);
+        Ok(())
+    }
+}

@@ -192,3 +192,84 @@ impl<W: Write> Sink for WriterSink<W> {
         }
     }
 }
+
+#[cfg(test)]
+mod tests {
+    use super::*;
+    use std::io;
+    use std::test::Fail;
+
+    // Writes up to two bytes at each call, but fails at the third and writes none at the fifth.
+    #[derive(Drop)]
+    struct Slow {
+        turn: u8,
+        written: Vec<u8>,
+    }
+
+    impl Write for Slow {
+        fn write(&mut self, piece: &[u8]) -> io::Result<usize> {
+            self.turn = self.turn.saturating_add(1);
+            if self.turn == 3 {
+                return Err(io::Error::other("a fault in mid-stream"));
+            }
+            if self.turn == 5 {
+                return Ok(0);
+            }
+            let count = piece.len().min(2);
+            self.written.extend_from_slice(&piece[..count])?;
+            Ok(count)
+        }
+
+        fn flush(&mut self) -> io::Result<()> {
+            Ok(())
+        }
+    }
+
+    #[test]
+    fn writer_that_fails_in_mid_stream(rt: HostRuntime) -> Result<(), Fail> {
+        let mut sink = WriterSink::new(Slow {
+            turn: 0,
+            written: Vec::new(rt.alloc()),
+        });
+        assert_eq!(rt; put_all(&mut sink, b"abcdef"), Err(Failed));
+        assert_eq!(rt; sink.faults, 1);
+        assert_eq!(rt; put_all(&mut sink, b"efgh"), Err(Failed));
+        assert_eq!(rt; sink.faults, 2);
+        assert_eq!(rt; put_all(&mut sink, b"gh"), Ok(()));
+        assert_eq!(rt; sink.faults, 2);
+        assert_eq!(rt; sink.writer.written.as_slice(), b"abcdefgh".as_slice());
+        Ok(())
+    }
+
+    #[test]
+    fn memory_sinks(rt: HostRuntime) -> Result<(), Fail> {
+        let none: &[u64] = &[];
+        let second: &[u64] = &[2];
+        for (bytes, fails, taken, whole) in [
+            (
+                b"abcdefghij".as_slice(),
+                none,
+                b"abcdefghij".as_slice(),
+                true,
+            ),
+            (
+                b"abcdefghijk".as_slice(),
+                none,
+                b"abcdefghij".as_slice(),
+                false,
+            ),
+            (
+                b"abcdefghijk".as_slice(),
+                second,
+                b"abcdefghij".as_slice(),
+                false,
+            ),
+        ] {
+            let mut sink = MemorySink::new(vec![in rt.alloc(); 0u8; 10]?, fails);
+            assert_eq!(rt; put_all(&mut sink, bytes).is_ok(), whole);
+            assert_eq!(rt; sink.taken(), taken);
+        }
+        assert!(rt; put_all(&mut CleanSink::new(), b"abc").is_ok());
+        Ok(())
+    }
+}
