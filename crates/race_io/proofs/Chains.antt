@@ -1,7 +1,7 @@
 -- Steps of reading and writing, one after another.
-use Rattle.std.proofs.Common.{◌≡◌, ℕ, ◌+◌, ◌-◌, ◌^◌, ◌<◌, ◌≤◌, List, [], ◌∷◌, ◌++◌, length, take, Option, Some, None, ◌⊎◌, inl, inr, refl, sym, ◌∙◌, ap, append_assoc, arith, append-nil, drop, take-append-drop, length-drop, subst}
+use Rattle.std.proofs.Common.{◌≡◌, ℕ, ◌+◌, ◌-◌, ◌≤◌, List, [], ◌++◌, length, take, Option, Some, None, inl, inr, refl, sym, ◌∙◌, ap, append_assoc, arith, append-nil, drop, take-append-drop, length-drop, subst}
 use Rattle.std.proofs.lemmas.List.{drop-take, take-take, take_all}
-use Rattle.std.specs.Io.KnownBytes.{Consumes, Appends, Keeps, IsAtEnd}
+use Rattle.std.specs.Io.KnownBytes.{Consumes, Appends, Keeps}
 use Rattle.race_io.specs.Counts.{Rose}
 
 -- two pieces taken one after the other are one

@@ -1,5 +1,5 @@
 -- What a clause sees of a source and a sink in memory.
-use Rattle.std.specs.Prelude.{◌≡◌, ℕ, ◌+◌, ◌-◌, ◌^◌, List, min}
+use Rattle.std.specs.Prelude.{ℕ, ◌+◌, ◌-◌, ◌^◌, List, min}
 
 -- the bytes left, the numbers of the calls that fail, how many calls there were, and how many of them failed
 pub record Supply : Type 0 where

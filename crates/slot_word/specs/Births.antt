@@ -1,5 +1,5 @@
 -- Birth words: bits 7..0 the depth, bits 23..8 the suffix, bits 63..24 the address of the parent.
-use Rattle.std.specs.Prelude.{◌≡◌, ℕ, ◌+◌, ◌*◌, ◌/◌, ◌%◌, ◌^◌, ◌<◌, ◌≤◌, ◌&&◌, nat_le, nat_lt, Option, Some, None, if◌then◌else◌}
+use Rattle.std.specs.Prelude.{ℕ, ◌+◌, ◌*◌, ◌/◌, ◌%◌, ◌^◌, ◌<◌, ◌≤◌, ◌&&◌, nat_le, nat_lt, Option, Some, None, if◌then◌else◌}
 use Rattle.slot_word.specs.declared.births.Birth.{Birth}
 
 -- the depth is one of a table, the suffix has no more bits than that, and the parent's address fits its field

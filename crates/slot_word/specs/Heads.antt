@@ -1,5 +1,5 @@
 -- Header words: bits 7..0 the depth, bits 9..8 the state, the rest 0.
-use Rattle.std.specs.Prelude.{◌≡◌, ℕ, zero, suc, ◌+◌, ◌*◌, ◌/◌, ◌%◌, ◌^◌, ◌≤◌, ◌==◌, nat_le, Option, Some, None, option_map, if◌then◌else◌}
+use Rattle.std.specs.Prelude.{ℕ, ◌+◌, ◌*◌, ◌/◌, ◌%◌, ◌^◌, ◌≤◌, ◌==◌, nat_le, Option, Some, None, option_map, if◌then◌else◌}
 use Rattle.slot_word.specs.declared.heads.State.{State}
 use Rattle.slot_word.specs.declared.heads.State.TheVariants.{Plain, Splitting, Filling}
 use Rattle.slot_word.specs.declared.heads.Head.{Head}

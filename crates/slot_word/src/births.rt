@@ -1,6 +1,7 @@
 // Birth words.
-ghost use Rattle.std.specs.Prelude.{◌≡◌, ◌^◌, ◌<◌, ◌≤◌};
-ghost use Rattle.slot_word.specs.Births.{birth_of, birth_word as word_of_birth};
+ghost use Rattle.std.specs.Prelude.{◌≡◌, ◌^◌, ◌<◌, ◌≤◌, IfSome};
+ghost use Rattle.slot_word.specs.declared.births.Birth.{Birth};
+ghost use Rattle.slot_word.specs.Births.{IsBirth, birth_of, birth_word as word_of_birth};
 
 /// Where a table came from: its depth when it was made, 0 to 16, the bits of a hash that its keys have in
 /// common, below 2^depth, and the address of its parent, below 2^40, or 0 where it is a first table.
@@ -23,7 +24,8 @@ pub fn birth_word(birth: &Birth) -> u64
     requires depth { birth.now.depth ≤ 16 }
     requires suffix { birth.now.suffix < 2 ^ birth.now.depth }
     requires parent { birth.now.parent < 2 ^ 40 }
-    ensures { result ≡ word_of_birth birth.now }
+    ensures word { result ≡ word_of_birth birth.now }
+    ensures back { birth_of result ≡ Some birth.now }
 {
     (birth.parent << 24) + (birth.suffix << 8) + birth.depth as u64
 }
@@ -32,7 +34,9 @@ pub fn birth_word(birth: &Birth) -> u64
 /// above 16, or its suffix is not below 2^depth.
 #[tactic(auto, unfolding(crate::specs::Births::birth_of))]
 pub fn read_birth(word: u64) -> Option<Birth>
-    ensures { result ≡ birth_of word }
+    ensures value { result ≡ birth_of word }
+    ensures packed { IfSome result (λ birth. IsBirth birth × (word_of_birth birth ≡ word)) }
+    ensures each { (birth : Birth) → IsBirth birth → word_of_birth birth ≡ word → result ≡ Some birth }
 {
     let depth = word % 256;
     let suffix = (word >> 8) % 65536;

@@ -9,6 +9,8 @@
 mod births;
 mod heads;
 mod slots;
+#[cfg(test)]
+mod tests;
 
 pub use births::{Birth, birth_word, read_birth};
 pub use heads::{Head, State, head_word, read_head};

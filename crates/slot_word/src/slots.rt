@@ -1,6 +1,6 @@
 // Slot words.
-ghost use Rattle.std.specs.Prelude.{◌≡◌, ◌^◌, ◌<◌, ◌≤◌};
-ghost use Rattle.slot_word.specs.Slots.{slot_of, slot_word};
+ghost use Rattle.std.specs.Prelude.{◌≡◌, ◌%◌, ◌^◌, ◌<◌, ◌≤◌, ◌↔◌, IfSome, IsNone};
+ghost use Rattle.slot_word.specs.Slots.{IsSlot, mark_bits, mark_of, slot_of, slot_word};
 
 /// What a client has said of the block that a slot names.
 #[derive(Clone, Copy, Debug, PartialEq, Eq)]
@@ -13,6 +13,33 @@ pub enum Mark {
     Copied,
     /// The pair now stands in a child of the table.
     Moved,
+}
+
+impl Mark {
+    // The two bits of the mark.
+    fn bits(self) -> u64
+        ensures { result ≡ mark_bits self }
+    {
+        match self {
+            Mark::Live => 0,
+            Mark::Pending => 1,
+            Mark::Copied => 2,
+            Mark::Moved => 3,
+        }
+    }
+
+    // The mark of two bits.
+    fn of_bits(bits: u64) -> Mark
+        requires { bits < 4 }
+        ensures { result ≡ mark_of bits }
+    {
+        match bits {
+            0 => Mark::Live,
+            1 => Mark::Pending,
+            2 => Mark::Copied,
+            _ => Mark::Moved,
+        }
+    }
 }
 
 /// What a slot word says: a block of `len` words at address `at`, 1 to 2^46 - 1, the fingerprint of its key,
@@ -30,7 +57,9 @@ pub struct Slot {
 }
 
 const FINGERPRINT_SHIFT: u32 = 56;
+
 const LENGTH_SHIFT: u32 = 48;
+
 const MARK_SHIFT: u32 = 46;
 
 /// The word of a slot: bits 63..56 the fingerprint, 55..48 the length, 47..46 the mark (0 live, 1 pending,
@@ -39,17 +68,12 @@ const MARK_SHIFT: u32 = 46;
 pub fn pack(slot: &Slot) -> u64
     requires low { 1 ≤ slot.now.at }
     requires high { slot.now.at < 2 ^ 46 }
-    ensures { result ≡ slot_word slot.now }
+    ensures word { result ≡ slot_word slot.now }
+    ensures back { slot_of result ≡ Some slot.now }
 {
-    let mark: u64 = match slot.mark {
-        Mark::Live => 0,
-        Mark::Pending => 1,
-        Mark::Copied => 2,
-        Mark::Moved => 3,
-    };
     ((slot.fp as u64) << FINGERPRINT_SHIFT)
         + ((slot.len as u64) << LENGTH_SHIFT)
-        + (mark << MARK_SHIFT)
+        + (slot.mark.bits() << MARK_SHIFT)
         + slot.at
 }
 
@@ -57,20 +81,16 @@ pub fn pack(slot: &Slot) -> u64
 /// slot: of these words only 0, the empty slot, ever stands in a table.
 #[tactic(auto, unfolding(crate::specs::Slots::slot_of, crate::specs::Slots::fields_of))]
 pub fn read_slot(word: u64) -> Option<Slot>
-    ensures { result ≡ slot_of word }
+    ensures value { result ≡ slot_of word }
+    ensures packed { IfSome result (λ slot. IsSlot slot × (slot_word slot ≡ word)) }
+    ensures none { IsNone result ↔ (word % 2 ^ 46 ≡ 0) }
 {
     let at = word % (1 << MARK_SHIFT);
     if at == 0 {
         return None;
     }
-    let mark = match (word >> MARK_SHIFT) % 4 {
-        0 => Mark::Live,
-        1 => Mark::Pending,
-        2 => Mark::Copied,
-        _ => Mark::Moved,
-    };
     Some(Slot {
-        mark,
+        mark: Mark::of_bits((word >> MARK_SHIFT) % 4),
         fp: (word >> FINGERPRINT_SHIFT) as u8,
         len: ((word >> LENGTH_SHIFT) % 256) as u8,
         at,

@@ -1,4 +1,4 @@
-use Rattle.std.proofs.Common.{ℕ, ◌+◌, ◌++◌, ◌≤◌, length, take, arith}
+use Rattle.std.proofs.Common.{◌++◌, ◌≤◌, length, take, arith}
 use Rattle.std.proofs.lemmas.Grind.{common_steps}
 use Rattle.race_io.proofs.Chains.{Consumes-then}
 use Rattle.race_io.proofs.reading.take_pieces.Goals as goal

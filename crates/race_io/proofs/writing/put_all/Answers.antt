@@ -1,4 +1,4 @@
-use Rattle.std.proofs.Common.{◌+◌, arith, length-drop}
+use Rattle.std.proofs.Common.{arith, length-drop}
 use Rattle.race_io.proofs.Chains.{Appends-next}
 use Rattle.race_io.proofs.writing.put_all.Goals as goal
 

@@ -1,0 +1,3 @@
+pub mod BirthLaws
+pub mod HeadLaws
+pub mod SlotLaws
