@@ -1,0 +1,4 @@
+pub mod Buckets
+pub mod Choice
+pub mod ExitLevel
+pub mod PlaceLists

@@ -1,0 +1,16 @@
+ghost use Rattle.std.specs.Prelude.{◌≡◌};
+ghost use Rattle.bucket_group.specs.ExitLevel.{exit_level};
+
+/// The level at which a key with this hash leaves a table of this birth depth: the least `i` of
+/// `birth_depth` to 15 whose bit of the hash is set. `None` comes exactly where there is none, and the key
+/// then always stays.
+pub fn exit_level(hash: u64, birth_depth: u32) -> Option<u32>
+    ensures { result ≡ exit_level hash birth_depth }
+{
+    for level in birth_depth..16 {
+        if (hash >> level) & 1 == 1 {
+            return Some(level);
+        }
+    }
+    None
+}
