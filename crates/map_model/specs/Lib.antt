@@ -1,0 +1,6 @@
+pub mod Contents
+pub mod Machine
+pub mod History
+pub mod Laws
+pub mod Moments
+pub mod Places

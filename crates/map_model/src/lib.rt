@@ -1,0 +1,20 @@
+//! The map as one thread sees it, and what its histories are.
+//!
+//! Calls and replies, the map machine that answers a call, records of answered calls with their bounds and points,
+//! the history that records and changes make, and whether it is legal. Clients, words and schedules are no part of it:
+//! a record says what a client asked, what it was answered and which changes it had seen.
+//! The crate stands on `kv_block`, which has keys, values and changes. The rules stand in docs/DEFINITIONS.md.
+#![tactic(auto)]
+
+pub mod calls;
+pub mod machine;
+pub mod nexts;
+pub mod plans;
+pub mod records;
+
+pub use calls::{Call, Calls, Reply};
+pub use kv_block::{Change, Changes};
+pub use machine::{MapMachine, map_at};
+pub use nexts::Nexts;
+pub use plans::{Item, Items, Plan, Plans};
+pub use records::{Record, Records};
