@@ -1,2 +1,4 @@
 pub mod Numbers
 pub mod Kept
+pub mod Filtered
+pub mod Bridge
