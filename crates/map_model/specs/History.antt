@@ -124,3 +124,8 @@ IsMade changes r = is_change r.reply ≡ true → (r.point < length changes) × 
 abbrev pub Has : List Record → Record → Type 0
 Has [] r = ⊥
 Has (x ∷ xs) r = (x ≡ r) ⊎ Has xs r
+
+-- R holds of each two records, the first of which stands before the second
+abbrev pub EachPair : (Record → Record → Type 0) → List Record → Type 0
+EachPair R [] = Unit {0}
+EachPair R (r ∷ rs) = AllByRecursion (R r) rs × EachPair R rs
