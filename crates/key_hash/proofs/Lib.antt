@@ -1,0 +1,2 @@
+pub mod MixingLaws
+pub mod PlacingLaws
