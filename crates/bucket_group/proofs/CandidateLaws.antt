@@ -1,14 +1,14 @@
 -- What holds of the candidates of every hash.
 
-use Rattle.std.proofs.Common.{◌≡◌, ◌≢◌, ℕ, zero, suc, ◌+◌, ◌-◌, ◌*◌, ◌/◌, ◌%◌, ◌^◌, ◌<◌, ◌≤◌, ◌⊎◌, inl, inr, ⊎_elim, Bool, true, false, cond, List, [], ◌∷◌, ◌++◌, length, get_or, Option, Some, refl, sym, ap, subst, ◌∙◌, arith}
-use Rattle.std.specs.Prelude.{◌==◌, slice_index, slice_get, if◌then◌else◌, All, Contains}
-use Rattle.std.proofs.lemmas.Bool.{cases_lt, cases_eq}
+use Rattle.std.proofs.Common.{◌≡◌, ◌≢◌, ℕ, zero, suc, ◌+◌, ◌*◌, ◌/◌, ◌%◌, ◌^◌, ◌<◌, ◌≤◌, ◌⊎◌, ⊎_elim, Bool, true, false, cond, List, [], ◌∷◌, length, get_or, refl, sym, subst, ◌∙◌, arith}
+use Rattle.std.specs.Prelude.{◌==◌, Contains}
+use Rattle.std.proofs.lemmas.Bool.{cases_eq}
 use Rattle.std.proofs.lemmas.Bool.Decides.{nat_tests}
 use Rattle.std.proofs.lemmas.Nat.{mod_below}
 use Rattle.std.proofs.lemmas.List.{get_or_default}
 use Rattle.node_words.specs.Addresses.{slot_at, bucket_header_at}
-use Rattle.bucket_group.specs.Buckets.{main_place, overflow_place, neighbour, first_bucket, drawn_bucket, second_bucket, slots_from, places_of, candidates}
-use Rattle.bucket_group.specs.PlaceLists.{length-places, length-places_range, index-places, length-short, length-long}
+use Rattle.bucket_group.specs.Buckets.{main_place, overflow_place, neighbour, first_bucket, drawn_bucket, second_bucket, candidates}
+use Rattle.bucket_group.specs.PlaceLists.{length-places, index-places}
 
 -- the main buckets of a hash are two of the table's
 pub first_below : (groups hash : ℕ) → 0 < groups → first_bucket groups hash < 2 * groups

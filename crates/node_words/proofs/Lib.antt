@@ -2,3 +2,4 @@ pub mod Sizes
 pub mod FirstTables
 pub mod RoleLemmas
 pub mod OpeningWords
+pub mod GeometryNumbers

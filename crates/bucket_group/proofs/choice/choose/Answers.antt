@@ -1,4 +1,4 @@
-use Rattle.std.proofs.Common.{◌≡◌, ◌∙◌, ℕ, ◌≤◌, ◌⊎◌, inl, inr, length, sym, ap, subst, arith}
+use Rattle.std.proofs.Common.{◌≡◌, ◌∙◌, ℕ, ◌⊎◌, length, ap, subst}
 use Rattle.bucket_group.specs.Choice.{second_combined}
 use Rattle.bucket_group.proofs.ChoiceLaws.{first_is_choice, second_is_choice, choice-tells_some, choice-tells_none}
 use Rattle.bucket_group.proofs.choice.choose.Goals as goal

@@ -1,7 +1,6 @@
-use Rattle.std.proofs.Common.{◌≡◌, ◌∙◌, sym, ap, arith}
+use Rattle.std.proofs.Common.{◌∙◌, sym}
 use Rattle.std.proofs.lemmas.Nat.{and_mask}
-use Rattle.bucket_group.specs.ExitLevel.{bit_of}
-use Rattle.bucket_group.proofs.ExitLaws.{bit_cases, bit_not, exit-found, exit-next, exit-end}
+use Rattle.bucket_group.proofs.ExitLaws.{bit_not, exit-found, exit-next, exit-end}
 use Rattle.bucket_group.proofs.exit.exit_level.Goals as goal
 
 pub returns-then-hash-level-eq1 : goal.returns-then-hash-level-eq1

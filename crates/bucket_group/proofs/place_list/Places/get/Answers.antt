@@ -1,4 +1,4 @@
-use Rattle.std.proofs.Common.{◌≡◌, ◌∙◌, ℕ, ◌<◌, sym, ap, subst, refl, arith, Some, length}
+use Rattle.std.proofs.Common.{◌∙◌, ap, arith, Some, length}
 use Rattle.std.proofs.lemmas.Option.{slice_get-get_or}
 use Rattle.bucket_group.specs.PlaceLists.{length-places_range, index-places}
 use Rattle.bucket_group.proofs.place_list.Places.get.Goals as goal

@@ -1,4 +1,4 @@
-use Rattle.std.proofs.Common.{◌≡◌, ◌∙◌, sym, ap, inl, inr, refl, arith, length}
+use Rattle.std.proofs.Common.{◌∙◌, sym, ap, inl, inr, refl, length}
 use Rattle.bucket_group.specs.PlaceLists.{length-short, length-long}
 use Rattle.bucket_group.proofs.place_list.Places.len.Goals as goal
 
