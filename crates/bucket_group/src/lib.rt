@@ -5,7 +5,7 @@
 //! neighbour, and the slots of these buckets are the key's candidates. Of a hash the bits 0 to 15 are its
 //! depth bits, the bits from 16 and from 32 on draw the two main buckets, and the bits 56 to 63 are its
 //! fingerprint. This crate stands on `node_words` for the sizes of a table. Its rule is written in
-//! docs/FORMATS.md, "Hash" and "Candidates and choice".
+//! docs/FORMATS.md, "Hash", "Candidates" and "Exit level".
 #![tactic(auto)]
 
 mod candidates;

@@ -15,7 +15,12 @@ use Rattle.node_words.proofs.Sizes.{few_first, first_free_words, node_at_is, nod
 use Rattle.node_words.proofs.FirstTables.{first_of, first_none_low, first_none_high, first_in, first_table_ends, cell_number, in_first, cell_place, cell_index}
 use Rattle.node_words.proofs.RoleLemmas.{next_role, depth_role, directory_role, birth_role, header_role, bucket_role, slot_role, lock_role, child_role, heap_role, next_in, birth_in}
 
--- the list of the opening words has the memory's length, and the word of each address
+-- the list of the opening words, by address
+pub opening-is : (g : Geometry) → opening g ≡ map (opening_word g) (range_with_len 0 g.words)
+unfolding opening
+opening-is g = refl
+
+-- the list has the memory's length, and the word of each address
 pub length-opening : (g : Geometry) → length (opening g) ≡ g.words
 unfolding opening
 length-opening g = length-map-range_with_len (opening_word g) 0 g.words

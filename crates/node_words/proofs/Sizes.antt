@@ -6,7 +6,7 @@ use Rattle.std.proofs.lemmas.Bool.Decides.{nat_tests}
 use Rattle.std.proofs.Math.Nat.{pow-le-pow_right, lt-div-mul-add}
 use Rattle.node_words.specs.declared.geometry.Geometry.{Geometry}
 use Rattle.node_words.specs.Limits.{is_group_count}
-use Rattle.node_words.specs.Addresses.{node_size, node_of, node_at, table_words, first_free}
+use Rattle.node_words.specs.Addresses.{node_size, node_of, node_at, table_words, first_table, first_free}
 
 -- a table has 1 to 64 groups
 pub group_range : (n : ℕ) → IsTrue (is_group_count n) → (1 ≤ n) × (n ≤ 64)
@@ -138,3 +138,20 @@ node_at_high g k h =
 -- an address below the node's size is in node 0
 pub node_of_low : (g : Geometry) (a : ℕ) → a < node_size g → node_of g a ≡ 0
 node_of_low g a h = ap (node_of g) (sym (ap (λ n. n + a) (node_at-0 g) ∙ zero-add a)) ∙ node_is g 0 a h
+
+-- the numbers as they are defined
+pub node_size-is : (g : Geometry) → node_size g ≡ g.words / g.nodes
+unfolding node_size
+node_size-is g = refl
+
+pub node_at-is : (g : Geometry) (k : ℕ) → node_at g k ≡ k * node_size g
+unfolding node_at
+node_at-is g k = refl
+
+pub first_table-is : (g : Geometry) (j : ℕ) → first_table g j ≡ 2 + 2 ^ g.max_depth + j * table_words g
+unfolding first_table
+first_table-is g j = refl
+
+pub first_free-is : (g : Geometry) → first_free g ≡ 2 + 2 ^ g.max_depth + 2 ^ g.first_depth * table_words g
+unfolding first_free
+first_free-is g = refl
