@@ -1,6 +1,6 @@
 -- Where a key may stand in a table, by its hash.
 
-use Rattle.std.specs.Prelude.{ℕ, ◌+◌, ◌-◌, ◌*◌, ◌/◌, ◌%◌, ◌^◌, ◌==◌, if◌then◌else◌, List, [], ◌++◌, length, slice_index}
+use Rattle.std.specs.Prelude.{◌≡◌, ◌≤◌, ℕ, ◌+◌, ◌-◌, ◌*◌, ◌/◌, ◌%◌, ◌^◌, ◌==◌, if◌then◌else◌, List, [], ◌++◌, length, slice_index}
 use Rattle.std.specs.List.{range_with_len}
 
 -- the place of the first word of main bucket m, which is its header
@@ -29,6 +29,10 @@ drawn_bucket groups hash = (hash / 2 ^ 32) % (2 * groups)
 
 unfoldable pub second_bucket : ℕ → ℕ → ℕ
 second_bucket groups hash = if drawn_bucket groups hash == first_bucket groups hash then neighbour (first_bucket groups hash) else drawn_bucket groups hash
+
+-- the place of the first word of a bucket, in the largest table
+abbrev pub IsBucketStart : ℕ → Type 0
+IsBucketStart b = (b % 8 ≡ 0) × (b + 8 ≤ 24 * 64)
 
 -- the places of the seven slots of the bucket whose first word has place b
 abbrev pub slots_from : ℕ → List ℕ

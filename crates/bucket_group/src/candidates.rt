@@ -1,5 +1,5 @@
 ghost use Rattle.std.specs.Prelude.{◌≡◌, ◌<◌, ◌*◌};
-ghost use Rattle.bucket_group.specs.Buckets.{candidates, first_bucket, main_place, overflow_place, neighbour};
+ghost use Rattle.bucket_group.specs.Buckets.{candidates, first_bucket, main_place, overflow_place, neighbour, IsBucketStart};
 
 use crate::place_list::{Combined, Places};
 use node_words::Geometry;
@@ -52,7 +52,7 @@ fn combined(bucket: u32) -> Combined
     requires { bucket < 128 }
     ensures main { result.main ≡ main_place bucket }
     ensures overflow { result.overflow ≡ overflow_place bucket }
-    ensures small { (result.main < 1536) × (result.overflow < 1536) }
+    ensures starts { IsBucketStart result.main × IsBucketStart result.overflow }
 {
     let group = 24 * (bucket / 2);
     Combined {

@@ -1,4 +1,4 @@
-ghost use Rattle.std.specs.Prelude.{◌≡◌, ◌<◌, ◌≤◌, ◌⊎◌, length, slice_get, Some};
+ghost use Rattle.std.specs.Prelude.{◌≡◌, ◌≢◌, ◌*◌, ◌%◌, ◌<◌, ◌⊎◌, length, slice_get, Some};
 
 use std::marker::Model;
 
@@ -20,14 +20,14 @@ pub struct Places {
 }
 
 impl Model for Places {
-    ghost use Rattle.std.specs.Prelude.{ℕ, List, ◌<◌};
-    ghost use Rattle.bucket_group.specs.Buckets.{places_of, header_of, last_header_of};
+    ghost use Rattle.std.specs.Prelude.{ℕ, List};
+    ghost use Rattle.bucket_group.specs.Buckets.{IsBucketStart, places_of, header_of, last_header_of};
 
     ghost Value = { List ℕ };
 
     ghost view = { λ p. places_of p.first.main p.first.overflow p.second.main p.second.overflow };
 
-    ghost invariant = { λ p. (p.first.main < 1536) × (p.first.overflow < 1536) × (p.second.main < 1536) × (p.second.overflow < 1536) };
+    ghost invariant = { λ p. IsBucketStart p.first.main × IsBucketStart p.first.overflow × IsBucketStart p.second.main × IsBucketStart p.second.overflow };
 
     ghost inverse = { λ xs. record {
       first = record { main = header_of xs 0; overflow = header_of xs 7 };
@@ -58,10 +58,12 @@ impl Places {
         }
     }
 
-    /// The place of candidate `i`, which is below `len`.
+    /// The place of candidate `i`, which is below `len`: the place of a slot, as it may be in a table of
+    /// 64 groups.
     pub fn get(&self, i: usize) -> u32
         requires { i < length self.now }
-        ensures { slice_get self.now i ≡ Some result }
+        ensures place { slice_get self.now i ≡ Some result }
+        ensures slot { (result < 24 * 64) × (result % 8 ≢ 0) }
     {
         let buckets = [
             self.first.main,

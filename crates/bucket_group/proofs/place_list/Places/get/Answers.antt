@@ -8,8 +8,8 @@ bounds-buckets-i c =
     let r = length-places_range c.self.inside.first.main c.self.inside.first.overflow c.self.inside.second.main c.self.inside.second.overflow in
     let e = ap length c.self.view_is in omega arith
 
-pub returns : goal.returns
-returns c =
+pub returns-clause-place : goal.returns-clause-place
+returns-clause-place c =
     let e = ap length c.self.view_is in
     rw (← c.self.view_is)
     (slice_get-get_or _ c.args.i 0 (omega arith)
