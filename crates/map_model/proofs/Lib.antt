@@ -5,3 +5,4 @@ pub mod Bridge
 pub mod Added
 pub mod Points
 pub mod AnyOrder
+pub mod CellAndOrder
