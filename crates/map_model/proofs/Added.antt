@@ -22,7 +22,7 @@ right_stays C D r h =
     let more = length-append C D in
     record {
       reply = ap (λ m. reply_of m r.call) (map_at-append C D r.point (omega (arith, w.most, w.seen))) ∙ h.reply;
-      within = record { least = w.least; most = w.most; seen = omega (arith, w.seen, more) }
+      within = record { least = w.least; most = w.most; seen = omega (arith, w.seen, more) };
     }
 
 pub answered_right_stays : (C D : List Change) (rs : List Record) → AllByRecursion (IsAnsweredRight C) rs → AllByRecursion (IsAnsweredRight (C ++ D)) rs
@@ -95,9 +95,10 @@ Matches-change [] n rs r c e is point h =
     let own : is_change_at n r ≡ true = both_true (is_change r.reply) (eqb r.point n) e (grind (arith, nat_tests)) in
     let late : is_change_late (n + 1) r ≡ false = ap (λ (b : Bool). b && leb (n + 1) r.point) e ∙ grind (arith, nat_tests) in
     let one : filter (is_change_at n) (rs ++ r ∷ []) ≡ r ∷ [] =
-      filter-append (is_change_at n) rs (r ∷ []) ∙ (λ i. older i ++ cond (own i) (r ∷ []) []) in
-    (ap (map told) one ∙ (λ i. (at i, is i) ∷ []),
-     append_all (λ s. is_change_late (n + 1) s ≡ false) rs (r ∷ []) (weaker (λ s. is_change_late n s ≡ false) (λ s. is_change_late (n + 1) s ≡ false) (not_later n) rs h) (late, tt))
+    filter-append (is_change_at n) rs (r ∷ []) ∙ (λ i. older i ++ cond (own i) (r ∷ []) []) in (
+      ap (map told) one ∙ (λ i. (at i, is i) ∷ []),
+      append_all (λ s. is_change_late (n + 1) s ≡ false) rs (r ∷ []) (weaker (λ s. is_change_late n s ≡ false) (λ s. is_change_late (n + 1) s ≡ false) (not_later n) rs h) (late, tt),
+    )
 Matches-change (d ∷ cs) n rs r c e is point h =
     let other : is_change_at n r ≡ false = ap (λ (b : Bool). b && eqb r.point n) e ∙ grind (arith, nat_tests) in
     (ap (map told) (filter_skip (is_change_at n) rs r other) ∙ h.0, Matches-change cs (n + 1) rs r c e is (omega arith) h.1)
@@ -110,7 +111,7 @@ pub founded_quiet : (C : List Change) (rs : List Record) (r : Record) → IsFoun
 founded_quiet C rs r h e right after = record {
   right = append_all (IsAnsweredRight C) rs (r ∷ []) h.right (right, tt);
   matched = Matches-quiet C 0 rs r e h.matched;
-  clients = in_order-push rs r h.clients after
+  clients = in_order-push rs r h.clients after;
 }
 
 pub founded_change : (C : List Change) (c : Change) (rs : List Record) (r : Record) → IsFounded C rs → is_change r.reply ≡ true → change_of r.call ≡ Some c → r.point ≡ length C
@@ -118,5 +119,5 @@ pub founded_change : (C : List Change) (c : Change) (rs : List Record) (r : Reco
 founded_change C c rs r h e is point right after = record {
   right = append_all (IsAnsweredRight (C ++ c ∷ [])) rs (r ∷ []) (answered_right_stays C (c ∷ []) rs h.right) (right, tt);
   matched = Matches-change C 0 rs r c e is (omega arith) h.matched;
-  clients = in_order-push rs r h.clients after
+  clients = in_order-push rs r h.clients after;
 }

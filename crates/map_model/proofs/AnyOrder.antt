@@ -60,7 +60,7 @@ pub matches_any_order : (C : List Change) (rs : List Record) → AllByRecursion 
 matches_any_order C rs own apart each [] done e =
     let all : done ≡ C = sym (append-nil done) ∙ e in
     subst (λ (d : List Change). AllByRecursion (λ r. is_change_late (length d) r ≡ false) rs) (sym all)
-      (weaker (IsMade C) (λ r. is_change_late (length C) r ≡ false) (not_beyond C) rs own)
+    (weaker (IsMade C) (λ r. is_change_late (length C) r ≡ false) (not_beyond C) rs own)
 matches_any_order C rs own apart each (c ∷ cs) done e =
     let long = length-append done (c ∷ cs) in
     let total = ap length e in
@@ -70,10 +70,11 @@ matches_any_order C rs own apart each (c ∷ cs) done e =
     let at = change_at (length done) r found.2 in
     let is : slice_get C r.point ≡ change_of r.call = (all_has (IsMade C) rs r own found.1 at.0).1 in
     let told_is : told r ≡ (length done, Some c) =
-      let change : change_of r.call ≡ Some c = sym is ∙ (λ i. slice_get (e' i) (at.1 i)) ∙ slice_get_at done c cs in
-      λ i. (at.1 i, change i) in
-    (ap (map told) (one_at (length done) rs r apart found.1 found.2) ∙ ap (λ (p : ℕ × Option Change). p ∷ []) told_is,
-     subst (λ (n : ℕ). Matches n cs rs) (length_push done c) (matches_any_order C rs own apart each cs (done ++ c ∷ []) (append_assoc done (c ∷ []) cs ∙ e)))
+    let change : change_of r.call ≡ Some c = sym is ∙ (λ i. slice_get (e' i) (at.1 i)) ∙ slice_get_at done c cs in
+    λ i. (at.1 i, change i) in (
+      ap (map told) (one_at (length done) rs r apart found.1 found.2) ∙ ap (λ (p : ℕ × Option Change). p ∷ []) told_is,
+      subst (λ (n : ℕ). Matches n cs rs) (length_push done c) (matches_any_order C rs own apart each cs (done ++ c ∷ []) (append_assoc done (c ∷ []) cs ∙ e)),
+    )
   where
     e' : C ≡ done ++ c ∷ cs
     e' = sym e

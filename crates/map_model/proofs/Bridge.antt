@@ -57,27 +57,27 @@ change_applies m (Insert key value) reply change q e is =
     let one : Change = record { key = key; value = Some value } in
     let same : one ≡ change = (cc) in
     subst (λ (c : Change). cond (is_some (fin.get m key)) m (fin.insert m key value) ≡ changed m c) same
-      (elim (fin.get m key) as (λ o. Some (insert_reply o) ≡ Some reply → cond (is_some o) m (fin.insert m key value) ≡ fin.insert m key value) [
-        | Some old ↦ λ f. absurd (cc)
-        | None ↦ λ f. refl
-      ] e)
+    (elim (fin.get m key) as (λ o. Some (insert_reply o) ≡ Some reply → cond (is_some o) m (fin.insert m key value) ≡ fin.insert m key value) [
+      | Some old ↦ λ f. absurd (cc)
+      | None ↦ λ f. refl
+    ] e)
 change_applies m (Search key) reply change q e is = absurd (cc)
 change_applies m (Update key value) reply change q e is =
     let one : Change = record { key = key; value = Some value } in
     let same : one ≡ change = (cc) in
     subst (λ (c : Change). cond (is_some (fin.get m key)) (fin.insert m key value) m ≡ changed m c) same
-      (elim (fin.get m key) as (λ o. Some (update_reply o) ≡ Some reply → cond (is_some o) (fin.insert m key value) m ≡ fin.insert m key value) [
-        | Some old ↦ λ f. refl
-        | None ↦ λ f. absurd (cc)
-      ] e)
+    (elim (fin.get m key) as (λ o. Some (update_reply o) ≡ Some reply → cond (is_some o) (fin.insert m key value) m ≡ fin.insert m key value) [
+      | Some old ↦ λ f. refl
+      | None ↦ λ f. absurd (cc)
+    ] e)
 change_applies m (Delete key) reply change q e is =
     let one : Change = record { key = key; value = None } in
     let same : one ≡ change = (cc) in
     subst (λ (c : Change). cond (is_some (fin.get m key)) (fin.remove m key) m ≡ changed m c) same
-      (elim (fin.get m key) as (λ o. Some (delete_reply o) ≡ Some reply → cond (is_some o) (fin.remove m key) m ≡ fin.remove m key) [
-        | Some old ↦ λ f. refl
-        | None ↦ λ f. absurd (cc)
-      ] e)
+    (elim (fin.get m key) as (λ o. Some (delete_reply o) ≡ Some reply → cond (is_some o) (fin.remove m key) m ≡ fin.remove m key) [
+      | Some old ↦ λ f. refl
+      | None ↦ λ f. absurd (cc)
+    ] e)
 change_applies m (Resize key) reply change q e is = absurd (cc)
 
 pub map_after-push : (m : Contents) (xs : List Change) (c : Change) → map_after m (xs ++ c ∷ []) ≡ changed (map_after m xs) c
@@ -143,8 +143,8 @@ last_quiet : (C : List Change) (rs : List Record) → AllByRecursion (IsAnswered
     → AllByRecursion (IsQuietRight (map_after fin.empty C)) (filter (is_late (length C)) rs)
 last_quiet C rs right matched =
     weaker _ (IsQuietRight (map_after fin.empty C)) one (filter (is_late (length C)) rs)
-      (kept (λ r. IsAnsweredRight C r × (is_change_late (length C) r ≡ false)) (is_late (length C)) rs
-        (both (IsAnsweredRight C) (λ r. is_change_late (length C) r ≡ false) rs right matched))
+    (kept (λ r. IsAnsweredRight C r × (is_change_late (length C) r ≡ false)) (is_late (length C)) rs
+    (both (IsAnsweredRight C) (λ r. is_change_late (length C) r ≡ false) rs right matched))
   where
     one : (r : Record) → (IsAnsweredRight C r × (is_change_late (length C) r ≡ false)) × (is_late (length C) r ≡ true) → IsQuietRight (map_after fin.empty C) r
     one r h =
@@ -152,9 +152,10 @@ last_quiet C rs right matched =
         let is_right = h.0.0 late.0 in
         let w = is_right.within in
         let point : r.point ≡ length C = omega (arith, w.most, w.seen, late.1) in
-        let same : map_at C r.point ≡ map_after fin.empty C = ap (map_after fin.empty) (take_all r.point C (omega arith)) in
-        (answer_quiet r late.0 (not_late_change (length C) r h.0.1 late.1),
-         subst (λ (m : Contents). reply_of m r.call ≡ Some r.reply) same is_right.reply)
+        let same : map_at C r.point ≡ map_after fin.empty C = ap (map_after fin.empty) (take_all r.point C (omega arith)) in (
+          answer_quiet r late.0 (not_late_change (length C) r h.0.1 late.1),
+          subst (λ (m : Contents). reply_of m r.call ≡ Some r.reply) same is_right.reply,
+        )
 
 -- the records before change number n
 quiet_part : (C done : List Change) (rs : List Record) → map_at C (length done) ≡ map_after fin.empty done → AllByRecursion (IsAnsweredRight C) rs
@@ -189,14 +190,14 @@ replays_from : (C : List Change) (rs : List Record) → AllByRecursion (IsAnswer
 replays_from C rs right [] done e matched =
     let all : done ≡ C = sym (append-nil done) ∙ e in
     subst (λ (d : List Change). Matches (length d) [] rs → Replays (map_after fin.empty d) (history_from (length d) [] rs)) (sym all)
-      (λ m. subst (Replays (map_after fin.empty C)) (append-nil (filter (is_late (length C)) rs)) (replays_quiet (map_after fin.empty C) (filter (is_late (length C)) rs) [] (last_quiet C rs right m) tt)) matched
+    (λ m. subst (Replays (map_after fin.empty C)) (append-nil (filter (is_late (length C)) rs)) (replays_quiet (map_after fin.empty C) (filter (is_late (length C)) rs) [] (last_quiet C rs right m) tt)) matched
 replays_from C rs right (change ∷ cs) done e matched =
     let same : map_at C (length done) ≡ map_after fin.empty done = ap (λ (d : List Change). map_at d (length done)) (sym e) ∙ map_at_front done (change ∷ cs) in
     let more = length_push done change in
     let later = replays_from C rs right cs (done ++ change ∷ []) (append_assoc done (change ∷ []) cs ∙ e) (subst (λ (n : ℕ). Matches n cs rs) (sym more) matched.1) in
     replays_quiet (map_after fin.empty done) (filter (is_quiet_at (length done)) rs) _ (quiet_part C done rs same right)
-      (change_part C done change (filter (is_change_at (length done)) rs) _ same (kept (IsAnsweredRight C) (is_change_at (length done)) rs right) matched.0
-        (subst (λ (n : ℕ). Replays (map_after fin.empty (done ++ change ∷ [])) (history_from n cs rs)) more later))
+    (change_part C done change (filter (is_change_at (length done)) rs) _ same (kept (IsAnsweredRight C) (is_change_at (length done)) rs right) matched.0
+    (subst (λ (n : ℕ). Replays (map_after fin.empty (done ++ change ∷ [])) (history_from n cs rs)) more later))
 
 made-append : (xs ys : List Record) → made (xs ++ ys) ≡ made xs ++ made ys
 made-append xs ys = ap (map told) (filter-append (λ r. is_change r.reply) xs ys) ∙ map-append told (filter (λ r. is_change r.reply) xs) (filter (λ r. is_change r.reply) ys)
@@ -231,5 +232,5 @@ legal_from_founded C rs h = record {
   replies = replays_from C rs h.right C [] refl h.matched;
   one_to_one = made_numbered C 0 rs h.matched;
   bounds = All-from_recursion (IsAnswerWithin (length C)) rs (weaker (IsAnsweredRight C) (IsAnswerWithin (length C)) (λ r f a. (f a).within) rs h.right);
-  clients = h.clients
+  clients = h.clients;
 }

@@ -73,12 +73,13 @@ cell_from key m [] h = tt
 cell_from key m (r ∷ rs) h =
     let later = cell_from key (after m r.call) rs h.1 in
     elim (key_eq key (key_of r.call)) as (λ b. key_eq key (key_of r.call) ≡ b
-        → MatchBool b ((reply_at r.call (fin.get m key) ≡ Some r.reply) × IsCell key (value_after r.call (fin.get m key)) rs) (IsCell key (fin.get m key) rs)) [
+    → MatchBool b ((reply_at r.call (fin.get m key) ≡ Some r.reply) × IsCell key (value_after r.call (fin.get m key)) rs) (IsCell key (fin.get m key) rs)) [
       | true ↦ λ e.
-          let same : key ≡ key_of r.call = key_eq-is key (key_of r.call) e in
-          (subst (λ (k : List ℕ). reply_at r.call (fin.get m k) ≡ Some r.reply) (sym same) h.0,
-           subst (λ o. IsCell key o rs)
-             (ap (fin.get (after m r.call)) same ∙ get-after m r.call ∙ ap (λ (k : List ℕ). value_after r.call (fin.get m k)) (sym same)) later)
+          let same : key ≡ key_of r.call = key_eq-is key (key_of r.call) e in (
+            subst (λ (k : List ℕ). reply_at r.call (fin.get m k) ≡ Some r.reply) (sym same) h.0,
+            subst (λ o. IsCell key o rs)
+                (ap (fin.get (after m r.call)) same ∙ get-after m r.call ∙ ap (λ (k : List ℕ). value_after r.call (fin.get m k)) (sym same)) later,
+          )
       | false ↦ λ e. subst (λ o. IsCell key o rs) (get-after_other m r.call key e) later
     ] refl
 
@@ -138,7 +139,7 @@ told_has P [] r h g e = absurd g
 told_has P (x ∷ xs) r h (inl same) e =
     let own : is_change x.reply ≡ true = ap (λ (s : Record). is_change s.reply) same ∙ e in
     subst (λ (s : Record). P (told s)) same
-      ((subst (λ (b : Bool). AllByRecursion P (map told (cond b (x ∷ filter (λ s. is_change s.reply) xs) (filter (λ s. is_change s.reply) xs)))) own h).0)
+    ((subst (λ (b : Bool). AllByRecursion P (map told (cond b (x ∷ filter (λ s. is_change s.reply) xs) (filter (λ s. is_change s.reply) xs)))) own h).0)
 told_has P (x ∷ xs) r h (inr g) e = told_has P xs r (less (is_change x.reply) h) g e
   where
     less : (b : Bool) → AllByRecursion P (map told (cond b (x ∷ filter (λ s. is_change s.reply) xs) (filter (λ s. is_change s.reply) xs))) → AllByRecursion P (made xs)
@@ -186,19 +187,19 @@ stands_from [] n rs a b least most answer answer' h g before = absurd (omega ari
 stands_from (c ∷ cs) n rs a b least most answer answer' h g before = elim (cases_lt n a.point) [
   | inl later ↦
       stands_later (filter (is_quiet_at n) rs) _ a b
-        (stands_later (filter (is_change_at n) rs) _ a b (stands_from cs (n + 1) rs a b (omega arith) (omega arith) answer answer' h g before))
+      (stands_later (filter (is_change_at n) rs) _ a b (stands_from cs (n + 1) rs a b (omega arith) (omega arith) answer answer' h g before))
   | inr upto ↦
       let at : a.point ≡ n = omega arith in
       let here : eqb a.point n ≡ true = grind (arith, nat_tests) in
       elim (quiet_or_change a answer) [
         | inl quiet ↦
             stands_across (filter (is_quiet_at n) rs) _ a b (has_kept (is_quiet_at n) rs a h (both_true (is_quiet a.reply) (eqb a.point n) quiet here))
-              (has_after_quiet cs n rs a b at answer' g before)
+            (has_after_quiet cs n rs a b at answer' g before)
         | inr change ↦
             let less = less_from_change a b change before in
             stands_later (filter (is_quiet_at n) rs) _ a b
-              (stands_across (filter (is_change_at n) rs) _ a b (has_kept (is_change_at n) rs a h (both_true (is_change a.reply) (eqb a.point n) change here))
-                (has_history cs (n + 1) rs b (omega arith) answer' g))
+            (stands_across (filter (is_change_at n) rs) _ a b (has_kept (is_change_at n) rs a h (both_true (is_change a.reply) (eqb a.point n) change here))
+            (has_history cs (n + 1) rs b (omega arith) answer' g))
       ]
 ]
 

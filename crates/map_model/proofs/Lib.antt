@@ -6,3 +6,5 @@ pub mod Added
 pub mod Points
 pub mod AnyOrder
 pub mod CellAndOrder
+pub mod Order
+pub mod Tests

@@ -19,7 +19,7 @@ first_stays C D lo call reply point l h =
       from = h.from;
       upto = omega (arith, more);
       gives = λ _. ap (λ m. reply_of m call) (map_at-append C D point l) ∙ h.gives l;
-      earlier = λ n low less e. h.earlier n low less (ap (λ m. reply_of m call) (sym (map_at-append C D n (omega arith))) ∙ e)
+      earlier = λ n low less e. h.earlier n low less (ap (λ m. reply_of m call) (sym (map_at-append C D n (omega arith))) ∙ e);
     }
 
 -- the least is at most any

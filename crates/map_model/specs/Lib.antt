@@ -4,3 +4,4 @@ pub mod History
 pub mod Laws
 pub mod Moments
 pub mod Places
+pub mod Sorting

@@ -1,6 +1,6 @@
 //! Calls of the map and what they are answered, and lists of calls.
 use crate::nexts::Nexts;
-use kv_block::{Key, Value};
+use kv_block::{Change, Key, Value};
 use std::alloc::{AllocError, Global};
 use std::marker::Model;
 
@@ -41,6 +41,60 @@ pub enum Reply {
     FullWords { next: Nexts, need: u64 },
     /// The next free word of each node, and how many words a block needs.
     NoBlock { next: Nexts, need: u64 },
+}
+
+impl Call {
+    ghost use Rattle.std.specs.Prelude.{◌≡◌};
+    ghost use Rattle.map_model.specs.Machine.{key_of, change_of};
+
+    /// The key that the call is about.
+    pub fn key(&self) -> Key
+        ensures { result ≡ key_of self.now }
+    {
+        match *self {
+            Call::Insert { key, value: _ }
+            | Call::Search { key }
+            | Call::Update { key, value: _ }
+            | Call::Delete { key }
+            | Call::Resize { key } => key,
+        }
+    }
+
+    /// The change that the call makes where it changes the map.
+    pub fn change(&self) -> Option<Change>
+        ensures { result ≡ change_of self.now }
+    {
+        match *self {
+            Call::Insert { key, value } | Call::Update { key, value } => Some(Change {
+                key,
+                value: Some(value),
+            }),
+            Call::Delete { key } => Some(Change { key, value: None }),
+            Call::Search { key: _ } | Call::Resize { key: _ } => None,
+        }
+    }
+}
+
+impl Reply {
+    ghost use Rattle.std.specs.Prelude.{◌≡◌};
+    ghost use Rattle.map_model.specs.Machine.{is_change, is_quiet};
+
+    /// Whether it is of a call that changed the map.
+    pub fn is_change(&self) -> bool
+        ensures { result ≡ is_change self.now }
+    {
+        matches!(
+            self,
+            Reply::Inserted | Reply::Updated(_) | Reply::Deleted(_)
+        )
+    }
+
+    /// Whether it is of a call that the map answered and that left it as it was.
+    pub fn is_quiet(&self) -> bool
+        ensures { result ≡ is_quiet self.now }
+    {
+        matches!(self, Reply::Found(_) | Reply::Missing | Reply::Exists(_))
+    }
 }
 
 /// A list of calls. A clause sees its items, and its room: how many more fit before memory is asked for.

@@ -7,12 +7,14 @@
 #![tactic(auto)]
 
 pub mod calls;
+pub mod histories;
 pub mod machine;
 pub mod nexts;
 pub mod plans;
 pub mod records;
 
 pub use calls::{Call, Calls, Reply};
+pub use histories::{history, is_legal};
 pub use kv_block::{Change, Changes};
 pub use machine::{MapMachine, map_at};
 pub use nexts::Nexts;

@@ -23,6 +23,31 @@ pub struct Record {
     pub point: u64,
 }
 
+impl Record {
+    ghost use Rattle.std.specs.Prelude.{◌≡◌, ◌<◌, ◌^◌};
+    ghost use Rattle.map_model.specs.History.{is_answer};
+    ghost use Rattle.map_model.specs.Sorting.{place_of};
+
+    /// Whether the map answered the call.
+    pub fn is_answer(&self) -> bool
+        ensures { result ≡ is_answer self.now }
+    {
+        self.reply.is_quiet() || self.reply.is_change()
+    }
+
+    // Where the record stands in the history of so many changes.
+    pub(crate) fn place(&self, count: u64) -> u64
+        requires { count < 2 ^ 60 }
+        ensures { result ≡ place_of count self.now }
+    {
+        if self.point < count {
+            2 * self.point + if self.reply.is_change() { 1 } else { 0 }
+        } else {
+            2 * count
+        }
+    }
+}
+
 /// A list of records. A clause sees its items, and its room: how many more fit before memory is asked for.
 #[derive(Debug, Drop)]
 pub struct Records {
@@ -49,6 +74,13 @@ impl Records {
         Records {
             records: Vec::new(alloc),
         }
+    }
+
+    // The list of these records.
+    pub(crate) fn of(records: Vec<Record>) -> Records
+        ensures { result.items ≡ records.items }
+    {
+        Records { records }
     }
 
     /// How many records there are.
