@@ -1,0 +1,4 @@
+pub mod Decoded
+pub mod Tables
+pub mod Kinds
+pub mod Changes

@@ -1,0 +1,26 @@
+/// What an entry of a log does, by the role of its word and by its old and new word.
+#[derive(Clone, Copy, PartialEq, Eq, Debug)]
+pub enum Kind {
+    Store,
+    Take,
+    Place,
+    Drop,
+    Commit,
+    Replace,
+    Remove,
+    Lock,
+    Unlock,
+    Link,
+    Begin,
+    Open,
+    Copy,
+    Uncopy,
+    Flip,
+    Settle,
+    Clear,
+    Finish,
+    Close,
+    Ripen,
+    Name,
+    Deepen,
+}
