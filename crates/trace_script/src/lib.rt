@@ -1,0 +1,4 @@
+//! The script and the report of a play.
+#![tactic(auto)]
+
+mod word;
