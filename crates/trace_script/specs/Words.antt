@@ -45,9 +45,13 @@ hex_bytes [] = Some []
 hex_bytes (h ∷ []) = None
 hex_bytes (h ∷ l ∷ digits) = in_front (hex_pair (hex_value h) (hex_value l)) (hex_bytes digits)
 
+-- the number of eight bytes, the high one first
+abbrev pub eight_bytes_number : List ℕ → Option ℕ
+eight_bytes_number bytes = if length bytes == 8 then Some (from_be_bytes w64 bytes) else None
+
 -- the number that sixteen hexadecimal digits spell
 abbrev pub hex_number_of : List ℕ → Option ℕ
-hex_number_of word = if length word == 16 then option_and_then (λ bytes. Some (from_be_bytes w64 bytes)) (hex_bytes word) else None
+hex_number_of word = if length word == 16 then option_and_then eight_bytes_number (hex_bytes word) else None
 
 -- bytes that have no plain spelling
 abbrev pub not_plain : List ℕ → Option (List ℕ)
@@ -73,3 +77,16 @@ value_of word = option_and_then (λ v. if nat_le (length v) 1024 then Some v els
 abbrev pub is_name : List ℕ → Bool
 is_name [] = false
 is_name (c ∷ cs) = is_small c && list_all is_name_byte cs && nat_le (length cs) 15
+
+-- the one word that is there
+abbrev pub one_of : List (List ℕ) → Option (List ℕ)
+one_of [] = None
+one_of (w ∷ []) = Some w
+one_of (w ∷ v ∷ ws) = None
+
+-- the two words that are there
+abbrev pub two_of : List (List ℕ) → Option (List ℕ × List ℕ)
+two_of [] = None
+two_of (w ∷ []) = None
+two_of (w ∷ v ∷ []) = Some (w, v)
+two_of (w ∷ v ∷ u ∷ ws) = None

@@ -4,8 +4,8 @@ use Rattle.trace_script.specs.Words.{parts_at}
 use Rattle.trace_script.proofs.Cuts.{parts_at-cut, parts_at-whole, none-more}
 use Rattle.trace_script.proofs.word.cut.Goals as goal
 
-pub returns-then-bytes-len : goal.returns-then-bytes-len
-returns-then-bytes-len c = parts_at-cut c.args.at c.args.bytes.now c.loop-len.len (omega arith) c.loop-len.invariant.other (eq-eqb _ _ c.if-bytes-len.true)
+pub returns-then-bytes-len-clause-parts : goal.returns-then-bytes-len-clause-parts
+returns-then-bytes-len-clause-parts c = parts_at-cut c.args.at c.args.bytes.now c.loop-len.len (omega arith) c.loop-len.invariant.other (eq-eqb _ _ c.if-bytes-len.true)
 
 pub loop-len-preserved : goal.loop-len-preserved
 loop-len-preserved c = record {
@@ -13,5 +13,5 @@ loop-len-preserved c = record {
   other = none-more c.args.at c.args.bytes.now c.loop-len.len (omega arith) c.loop-len.invariant.other (ne_eqb _ _ c.if-bytes-len.false);
 }
 
-pub returns : goal.returns
-returns c = parts_at-whole c.args.at c.args.bytes.now c.loop-len.len (omega arith) c.loop-len.invariant.other
+pub returns-clause-parts : goal.returns-clause-parts
+returns-clause-parts c = parts_at-whole c.args.at c.args.bytes.now c.loop-len.len (omega arith) c.loop-len.invariant.other

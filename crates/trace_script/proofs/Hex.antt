@@ -1,0 +1,27 @@
+-- Hexadecimal digits.
+use Rattle.std.proofs.Common.{◌≡◌, ℕ, ◌-◌, ◌≤◌, List, [], ◌∷◌, ◌++◌, Option, Some, None, length, take, drop, get_or, refl, sym, ap, ◌∙◌, append_assoc, arith, suc}
+use Rattle.std.proofs.lemmas.List.{take_all}
+use Rattle.trace_script.specs.Words.{in_front, hex_bytes, hex_pair, hex_value}
+
+-- bytes, and those behind them that may be there
+abbrev pub behind : List ℕ → Option (List ℕ) → Option (List ℕ)
+behind bytes (Some others) = Some (bytes ++ others)
+behind bytes None = None
+
+-- one byte more
+pub behind-push : (bytes : List ℕ) (b : ℕ) (o : Option (List ℕ)) → behind (bytes ++ b ∷ []) o ≡ behind bytes (in_front (Some b) o)
+behind-push bytes b (Some others) = ap Some (append_assoc bytes (b ∷ []) others)
+behind-push bytes b None = refl
+
+-- two digits more are read
+pub hex-step : (bytes rest digits : List ℕ) (b : ℕ) → 2 ≤ length rest → behind bytes (hex_bytes rest) ≡ hex_bytes digits
+    → hex_pair (hex_value (get_or rest 0 0)) (hex_value (get_or rest 1 0)) ≡ Some b
+    → behind (bytes ++ b ∷ []) (hex_bytes (take (length rest - 2) (drop 2 rest))) ≡ hex_bytes digits
+hex-step bytes [] digits b two same pair = absurd (omega arith)
+hex-step bytes (h ∷ []) digits b two same pair = absurd (omega arith)
+hex-step bytes (h ∷ l ∷ others) digits b two same pair =
+    let all = take_all (length (h ∷ l ∷ others) - 2) others (omega arith) in
+    ap (λ r. behind (bytes ++ b ∷ []) (hex_bytes r)) all
+    ∙ behind-push bytes b (hex_bytes others)
+    ∙ ap (λ p. behind bytes (in_front p (hex_bytes others))) (sym pair)
+    ∙ same

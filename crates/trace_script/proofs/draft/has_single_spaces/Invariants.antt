@@ -1,0 +1,15 @@
+use Rattle.std.proofs.Common.{◌≡◌, not, ℕ, List}
+use Rattle.std.specs.List.{list_all}
+use Rattle.std.specs.Option.{option_map}
+use Rattle.trace_script.specs.Words.{parts_after, parts_at}
+use Rattle.trace_script.specs.Rules.{is_empty}
+use Rattle.trace_script.proofs.Items.{words_left}
+use Rattle.trace_script.proofs.draft.has_single_spaces.Given as goal
+
+-- the words so far are not empty
+abbrev pub invariant-loop-rest : goal.invariant-loop-rest
+invariant-loop-rest l =
+    list_all (λ (word : List ℕ). not (is_empty word)) (parts_after 32 (option_map (λ rest. rest.now) l.rest)) ≡ list_all (λ (word : List ℕ). not (is_empty word)) (parts_at 32 l.line)
+
+abbrev pub decreases-loop-rest : goal.decreases-loop-rest
+decreases-loop-rest l = words_left (option_map (λ rest. rest.now) l.rest)

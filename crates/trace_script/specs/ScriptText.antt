@@ -1,0 +1,74 @@
+-- The text of a script: each of its lines, word by word.
+use Rattle.std.specs.Prelude.{ℕ, suc, zero, ◌==◌, if◌then◌else◌, List, [], ◌∷◌, ◌++◌, map, codes, slice_index_or}
+use Rattle.std.specs.List.{flat_map, join_with_byte}
+use Rattle.std.specs.Fmt.{decimal}
+use Rattle.map_model.specs.declared.call.Call.{Call}
+use Rattle.map_model.specs.declared.call.Call.TheVariants.{Insert, Search, Update, Delete, Resize}
+use Rattle.map_model.specs.declared.call.Item.{Item}
+use Rattle.map_model.specs.declared.call.Item.TheVariants as item
+use Rattle.trace_script.specs.Spelling.{spelled, hex_number}
+use Rattle.trace_script.specs.Content.{Content, ScriptValue, Sizes, sizes_of, names_of}
+
+-- line 1
+abbrev pub header_words : ℕ → List (List ℕ)
+header_words version = codes "race" ∷ decimal version ∷ []
+
+-- line 2
+abbrev pub table_words : ℕ → Sizes → List (List ℕ)
+table_words version s =
+    codes "table" ∷ (codes "groups=" ++ decimal s.groups) ∷ (codes "depth=" ++ decimal s.max_depth)
+    ∷ ((if version == 1 then [] else (codes "first=" ++ decimal s.first_depth) ∷ (codes "nodes=" ++ decimal s.nodes) ∷ [])
+      ++ (codes "words=" ++ decimal s.words) ∷ (codes "tries=" ++ decimal s.tries) ∷ [])
+
+abbrev pub hash_words : List ℕ × ℕ → List (List ℕ)
+hash_words e = codes "hash" ∷ spelled e.0 ∷ hex_number e.1 ∷ []
+
+-- the line of a call
+abbrev pub call_words : Call → List (List ℕ)
+call_words (Insert key value) = codes "insert" ∷ spelled key ∷ spelled value ∷ []
+call_words (Search key) = codes "search" ∷ spelled key ∷ []
+call_words (Update key value) = codes "update" ∷ spelled key ∷ spelled value ∷ []
+call_words (Delete key) = codes "delete" ∷ spelled key ∷ []
+call_words (Resize key) = codes "resize" ∷ spelled key ∷ []
+
+-- a client's line, and those of its calls
+abbrev pub client_words : List ℕ × List Call → List (List (List ℕ))
+client_words e = (codes "client" ∷ e.0 ∷ []) ∷ map call_words e.1
+
+-- the name of the client at a place
+abbrev pub name_at : List (List ℕ) → ℕ → List ℕ
+name_at names client = slice_index_or names client []
+
+abbrev pub stop_words : List (List ℕ) → ℕ × ℕ → List (List ℕ)
+stop_words names e = codes "stop" ∷ name_at names e.0 ∷ decimal e.1 ∷ []
+
+-- an item: `NAME`, `NAME*N` or `NAME!`
+abbrev pub item_word : List (List ℕ) → Item → List ℕ
+item_word names (item.Verbs client count) = if count == 1 then name_at names client else name_at names client ++ 42 ∷ decimal count
+item_word names (item.Call client) = name_at names client ++ 33 ∷ []
+
+abbrev pub schedule_words : List (List ℕ) → List Item → List (List ℕ)
+schedule_words names items = codes "schedule" ∷ map (item_word names) items
+
+-- the lines behind the first two, but for `end`
+abbrev pub content_words : Content → List (List (List ℕ))
+content_words c =
+    map hash_words c.hashes ++ flat_map client_words c.clients
+    ++ map (stop_words (names_of c)) c.stops ++ map (schedule_words (names_of c)) c.schedules
+
+-- a line: its words, with single spaces between
+abbrev pub line_of : List (List ℕ) → List ℕ
+line_of words = join_with_byte 32 words
+
+-- all lines of a script
+abbrev pub script_lines : ScriptValue → List (List ℕ)
+script_lines s =
+    map line_of (header_words s.version ∷ table_words s.version (sizes_of s.geometry s.tries) ∷ content_words s.content ++ (codes "end" ∷ []) ∷ [])
+
+-- lines, each with its line feed
+abbrev pub text_of : List (List ℕ) → List ℕ
+text_of lines = flat_map (λ line. line ++ 10 ∷ []) lines
+
+-- the text of a script
+abbrev pub text_of_script : ScriptValue → List ℕ
+text_of_script s = text_of (script_lines s)

@@ -1,0 +1,146 @@
+//! What the lines behind the first two say.
+ghost use Rattle.std.specs.Prelude.{◌≡◌, ◌<◌, ◌≤◌, ◌++◌, ◌∷◌, ℕ, [], false, IsTrue, IsSome, Some, None, length, map, OnOk, IfSome, is_some};
+ghost use Rattle.trace_script.specs.Content.{no_content, is_listed, client_at, stop_at, with_hash, with_client, with_call, called, client_view, with_stop, with_schedule};
+ghost use Rattle.trace_script.specs.Rules.{is_empty};
+
+use crate::name::Name;
+use indexmap::IndexMap;
+use kv_block::Key;
+use map_model::{Call, Calls, Items};
+use std::alloc::{AllocError, Global};
+use std::marker::Model;
+
+// The lines of a script behind the first two.
+#[derive(Drop)]
+pub struct Body {
+    hashes: IndexMap<Key, u64>,
+    clients: IndexMap<Name, Calls>,
+    stops: IndexMap<u32, u64>,
+    schedules: Vec<Items>,
+}
+
+impl Model for Body {
+    ghost use Rattle.std.specs.Prelude.{ℕ, ◌≤◌, map, length};
+    ghost use Rattle.trace_script.specs.Content.{Content, client_view};
+
+    ghost Value = { Content };
+
+    ghost view = { λ b. record {
+        hashes = b.hashes.entries;
+        clients = map client_view b.clients.entries;
+        stops = b.stops.entries;
+        schedules = map (λ items. items.items) b.schedules.items;
+    } };
+
+    ghost invariant = { λ b. length b.clients.entries ≤ 64 };
+}
+
+impl Body {
+    // Nothing read yet.
+    pub fn new(alloc: Global) -> Body
+        ensures { result ≡ no_content }
+    {
+        Body {
+            hashes: IndexMap::new(alloc),
+            clients: IndexMap::new(alloc),
+            stops: IndexMap::new(alloc),
+            schedules: Vec::new(alloc),
+        }
+    }
+
+    pub fn has_no_client(&self) -> bool
+        ensures { result ≡ is_empty self.now.clients }
+    {
+        self.clients.is_empty()
+    }
+
+    pub fn has_no_stop(&self) -> bool
+        ensures { result ≡ is_empty self.now.stops }
+    {
+        self.stops.is_empty()
+    }
+
+    pub fn has_no_schedule(&self) -> bool
+        ensures { result ≡ is_empty self.now.schedules }
+    {
+        self.schedules.is_empty()
+    }
+
+    pub fn clients(&self) -> u32
+        ensures number { result ≡ length self.now.clients }
+        ensures few { result ≤ 64 }
+    {
+        self.clients.len() as u32
+    }
+
+    pub fn is_listed(&self, key: &Key) -> bool
+        ensures { result ≡ is_listed self.now key.now }
+    {
+        self.hashes.contains_key(key)
+    }
+
+    pub fn client_at(&self, name: &Name) -> Option<u32>
+        ensures place { result ≡ client_at self.now name.now }
+        ensures within { IfSome result (λ client. client < length self.now.clients) }
+    {
+        let place = self.clients.get_index_of(name)?;
+        Some(place as u32)
+    }
+
+    pub fn stop_at(&self, client: u32) -> Option<u64>
+        ensures { result ≡ stop_at self.now client }
+    {
+        self.stops.get(&client).copied()
+    }
+
+    pub fn add_hash(&mut self, key: Key, hash: u64) -> Result<(), AllocError>
+        requires { is_listed self.old key ≡ false }
+        ensures { OnOk result (self.new ≡ with_hash self.old key hash) }
+    {
+        self.hashes.insert(key, hash)?;
+        Ok(())
+    }
+
+    pub fn add_client(&mut self, alloc: Global, name: Name) -> Result<(), AllocError>
+        requires fresh { client_at self.old name ≡ None }
+        requires few { length self.old.clients < 64 }
+        ensures { OnOk result (self.new ≡ with_client self.old name) }
+    {
+        self.clients.insert(name, Calls::new(alloc))?;
+        Ok(())
+    }
+
+    pub fn add_call(&mut self, call: Call) -> Result<(), AllocError>
+        requires { is_empty self.old.clients ≡ false }
+        ensures { OnOk result (self.new ≡ with_call self.old call) }
+    {
+        call_last(&mut self.clients, call)
+    }
+
+    pub fn add_stop(&mut self, client: u32, stop: u64) -> Result<(), AllocError>
+        requires { stop_at self.old client ≡ None }
+        ensures { OnOk result (self.new ≡ with_stop self.old client stop) }
+    {
+        self.stops.insert(client, stop)?;
+        Ok(())
+    }
+
+    pub fn add_schedule(&mut self, items: Items) -> Result<(), AllocError>
+        ensures { OnOk result (self.new ≡ with_schedule self.old items.items) }
+    {
+        self.schedules.push(items)?;
+        Ok(())
+    }
+}
+
+// Appends a call to those of the last client.
+fn call_last(clients: &mut IndexMap<Name, Calls>, call: Call) -> Result<(), AllocError>
+    requires { 0 < length clients.old.entries }
+    ensures called { OnOk result (map client_view clients.new.entries ≡ called (map client_view clients.old.entries) call) }
+    ensures length { length clients.new.entries ≡ length clients.old.entries }
+{
+    let Some(calls) = clients.last_mut() else {
+        return Ok(());
+    };
+    calls.push(call)
+}

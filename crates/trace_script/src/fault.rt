@@ -1,0 +1,68 @@
+//! Why bytes are no script.
+ghost use Rattle.std.specs.Prelude.{◌≡◌};
+ghost use Rattle.trace_script.specs.declared.fault.Halt.TheVariants.{OutOfMemory};
+
+use std::alloc::{AllocError, AllocFailed};
+use thiserror::Error;
+
+/// What is wrong with a line of a script.
+#[derive(Clone, Copy, Debug, PartialEq, Eq)]
+pub enum ScriptKind {
+    /// Line 1 is neither `race 1` nor `race 2`.
+    Header,
+    /// Line 2 has another form, or its numbers are outside their limits.
+    Table,
+    /// A byte outside 0x20..0x7e, an empty word, a first word that is none of the list or stands where the order
+    /// forbids it, or a wrong number of words.
+    Word,
+    /// A key that is misspelt, of no allowed length, or listed twice.
+    Key,
+    /// A value that is misspelt or too long.
+    Value,
+    /// A number that is misspelt or out of its range.
+    Number,
+    /// A line that wants a client before there is one; or a name that is misspelt, used twice or unknown, or of one
+    /// client too many.
+    Client,
+    /// An item that is misspelt or has an unknown name.
+    Schedule,
+    /// More bytes of the script or of a line, or more call lines, than are allowed.
+    TooLong,
+    /// The bytes end before the line feed or before `end`, or bytes stand behind `end`.
+    End,
+}
+
+/// Why there is no script.
+#[derive(Clone, Copy, Debug, PartialEq, Eq, Drop, Error)]
+pub enum ScriptFault {
+    /// The first line that breaks a rule, counted from 1, or 0 where there are too many bytes; and the first rule that
+    /// it breaks.
+    #[error("line {line} is refused")]
+    Refused { line: u64, kind: ScriptKind },
+    /// Want of memory.
+    #[error("out of memory")]
+    OutOfMemory,
+}
+
+// Why a line is not taken.
+#[derive(Clone, Copy, Debug, PartialEq, Eq)]
+pub enum Halt {
+    Refused(ScriptKind),
+    OutOfMemory,
+}
+
+impl From<AllocError> for Halt {
+    ghost from_gives = { λ _ e. e ≡ OutOfMemory };
+
+    fn from(_e: AllocError) -> Halt {
+        Halt::OutOfMemory
+    }
+}
+
+impl<T: Drop> From<AllocFailed<T>> for Halt {
+    ghost from_gives = { λ _ e. e ≡ OutOfMemory };
+
+    fn from(_e: AllocFailed<T>) -> Halt {
+        Halt::OutOfMemory
+    }
+}
