@@ -46,5 +46,5 @@ pub two_of-more : (w v : List ℕ) (c : ℕ) (bytes : List ℕ) → two_of (w �
 two_of-more w v c bytes = let some = parts_at-some c bytes in ap (λ ps. two_of (w ∷ v ∷ ps)) some.2
 
 -- so it has not none
-pub is_empty-parts : (c : ℕ) (bytes : List ℕ) → is_empty (parts_at c bytes) ≡ false
-is_empty-parts c bytes = let some = parts_at-some c bytes in ap (λ (ps : List (List ℕ)). is_empty ps) some.2
+pub is_empty_parts : (c : ℕ) (bytes : List ℕ) → is_empty (parts_at c bytes) ≡ false
+is_empty_parts c bytes = let some = parts_at-some c bytes in ap (λ (ps : List (List ℕ)). is_empty ps) some.2

@@ -1,6 +1,6 @@
 -- Items, read one after the other.
 use Rattle.std.proofs.Common.{◌≡◌, ℕ, ◌<◌, List, [], ◌∷◌, ◌++◌, Option, Some, None, length, refl, ap, append_assoc, suc, arith}
-use Rattle.map_model.specs.declared.call.Item.{Item}
+use Rattle.map_model.specs.declared.plans.Item.{Item}
 use Rattle.trace_script.specs.Rules.{item_first}
 
 -- items, and those behind them that may be there

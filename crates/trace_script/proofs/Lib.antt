@@ -6,3 +6,4 @@ pub mod Entries
 pub mod Items
 pub mod Schedules
 pub mod Placed
+pub mod Turns

@@ -1,7 +1,7 @@
 -- Schedule lines.
 use Rattle.std.proofs.Common.{◌≡◌, ℕ, List, false, Option, Some, Ok, ap, ◌∙◌}
 use Rattle.std.proofs.lemmas.Bool.{cond-false}
-use Rattle.map_model.specs.declared.call.Item.{Item}
+use Rattle.map_model.specs.declared.plans.Item.{Item}
 use Rattle.trace_script.specs.declared.fault.ScriptKind.TheVariants as kind
 use Rattle.trace_script.specs.Content.{Content, with_schedule}
 use Rattle.trace_script.specs.Rules.{◌>>=◌, or_else, is_empty, items_of, schedule_step}

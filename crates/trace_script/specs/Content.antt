@@ -3,8 +3,8 @@ use Rattle.std.specs.Prelude.{◌≡◌, ℕ, ◌+◌, Bool, nat_eq, List, [], �
 use Rattle.std.specs.Map.{lookup}
 use Rattle.kv_block.specs.RoomyList.{RoomyList}
 use Rattle.kv_block.specs.Bytes.{key_eq}
-use Rattle.map_model.specs.declared.call.Call.{Call}
-use Rattle.map_model.specs.declared.call.Item.{Item}
+use Rattle.map_model.specs.declared.calls.Call.{Call}
+use Rattle.map_model.specs.declared.plans.Item.{Item}
 use Rattle.node_words.specs.declared.geometry.Geometry.{Geometry}
 
 -- the lines behind the first two: the listed hashes; each client with its calls; the clients' stops, in the order

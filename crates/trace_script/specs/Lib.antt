@@ -5,3 +5,4 @@ pub mod ScriptText
 pub mod Rules
 pub mod Gives
 pub mod Drafts
+pub mod Tables

@@ -2,10 +2,10 @@
 use Rattle.std.specs.Prelude.{◌≡◌, ℕ, ◌+◌, ◌^◌, ◌==◌, ◌&&◌, ◌||◌, nat_le, nat_lt, Bool, true, false, not, if◌then◌else◌, List, [], ◌∷◌, ◌++◌, length, map, codes, drop, Option, Some, None, is_some, is_none, Result, Ok, Err}
 use Rattle.std.specs.List.{list_all}
 use Rattle.std.specs.Option.{option_and_then}
-use Rattle.map_model.specs.declared.call.Call.{Call}
-use Rattle.map_model.specs.declared.call.Call.TheVariants.{Insert, Search, Update, Delete, Resize}
-use Rattle.map_model.specs.declared.call.Item.{Item}
-use Rattle.map_model.specs.declared.call.Item.TheVariants as item
+use Rattle.map_model.specs.declared.calls.Call.{Call}
+use Rattle.map_model.specs.declared.calls.Call.TheVariants.{Insert, Search, Update, Delete, Resize}
+use Rattle.map_model.specs.declared.plans.Item.{Item}
+use Rattle.map_model.specs.declared.plans.Item.TheVariants as item
 use Rattle.kv_block.specs.Bytes.{key_eq}
 use Rattle.node_words.specs.Faults.{first_fault}
 use Rattle.trace_script.specs.declared.fault.ScriptKind.{ScriptKind}
@@ -335,11 +335,15 @@ is_all [] = true
 is_all (tail ∷ []) = is_empty tail
 is_all (line ∷ more ∷ parts) = false
 
+-- what there is where `end` stands on line n, and these parts behind it
+abbrev pub ending : ℕ → Content → List (List ℕ) → Result Content Refusal
+ending n c parts = if is_all parts then Ok c else Err (n + 1, kind.End)
+
 -- what the lines give, by what one of them gave
 abbrev pub goes_on : ℕ → Content → List (List ℕ) → (Reading → Result Content Refusal) → Result (Option Reading) ScriptKind → Result Content Refusal
 goes_on n c parts others (Err k) = Err (n, k)
 goes_on n c parts others (Ok (Some r)) = others r
-goes_on n c parts others (Ok None) = if is_all parts then Ok c else Err (n + 1, kind.End)
+goes_on n c parts others (Ok None) = ending n c parts
 
 -- what the lines from the n-th on make of what has been read
 abbrev pub read_lines : ℕ → ℕ → Reading → List (List ℕ) → Result Content Refusal
@@ -355,12 +359,33 @@ pub record Told : Type 0 where
   pub sizes : Sizes
   pub content : Content
 
+-- the first two lines, and the parts behind them
+pub record Head : Type 0 where
+  pub version : ℕ
+  pub sizes : Sizes
+  pub others : List (List ℕ)
+
+abbrev pub version_line : List (List ℕ) → Result (ℕ × List (List ℕ)) Refusal
+version_line parts = do
+  line ← on_line 1 (next_line parts)
+  version ← on_line 1 (version_of line.0)
+  Ok (version, line.1)
+
+abbrev pub table_line : ℕ → List (List ℕ) → Result (Sizes × List (List ℕ)) Refusal
+table_line version parts = do
+  line ← on_line 2 (next_line parts)
+  sizes ← on_line 2 (table_of version line.0)
+  Ok (sizes, line.1)
+
+abbrev pub head_of : List ℕ → Result Head Refusal
+head_of bytes = do
+  first ← version_line (parts_at 10 bytes)
+  second ← table_line first.0 first.1
+  Ok (record { version = first.0; sizes = second.0; others = second.1 })
+
 -- The script that bytes spell, or their refusal
 abbrev pub script_of : List ℕ → Result Told Refusal
 script_of bytes = if nat_lt 4194304 (length bytes) then Err (0, kind.TooLong) else (do
-  first ← on_line 1 (next_line (parts_at 10 bytes))
-  version ← on_line 1 (version_of first.0)
-  second ← on_line 2 (next_line first.1)
-  sizes ← on_line 2 (table_of version second.0)
-  content ← read_lines (most_clients version) 3 (record { calls = 0; content = no_content }) second.1
-  Ok (record { version = version; sizes = sizes; content = content }))
+  head ← head_of bytes
+  content ← read_lines (most_clients head.version) 3 (record { calls = 0; content = no_content }) head.others
+  Ok (record { version = head.version; sizes = head.sizes; content = content }))

@@ -2,10 +2,10 @@
 use Rattle.std.specs.Prelude.{ℕ, suc, zero, ◌==◌, if◌then◌else◌, List, [], ◌∷◌, ◌++◌, map, codes, slice_index_or}
 use Rattle.std.specs.List.{flat_map, join_with_byte}
 use Rattle.std.specs.Fmt.{decimal}
-use Rattle.map_model.specs.declared.call.Call.{Call}
-use Rattle.map_model.specs.declared.call.Call.TheVariants.{Insert, Search, Update, Delete, Resize}
-use Rattle.map_model.specs.declared.call.Item.{Item}
-use Rattle.map_model.specs.declared.call.Item.TheVariants as item
+use Rattle.map_model.specs.declared.calls.Call.{Call}
+use Rattle.map_model.specs.declared.calls.Call.TheVariants.{Insert, Search, Update, Delete, Resize}
+use Rattle.map_model.specs.declared.plans.Item.{Item}
+use Rattle.map_model.specs.declared.plans.Item.TheVariants as item
 use Rattle.trace_script.specs.Spelling.{spelled, hex_number}
 use Rattle.trace_script.specs.Content.{Content, ScriptValue, Sizes, sizes_of, names_of}
 

@@ -178,6 +178,7 @@ impl Draft {
         requires few { self.old.most ≤ 64 }
         ensures read { Gives (λ step. step_told (reading_of self.new) step) result (command_step self.old.most (reading_of self.old) command (parts_after 32 (option_map (λ rest. rest.now) words.entry))) }
         ensures most { self.new.most ≡ self.old.most }
+        ensures ended { result ≡ Ok Step.End → reading_of self.new ≡ reading_of self.old }
     {
         match command {
             Command::Hash => self.body.take_hash(alloc, words)?,
@@ -203,6 +204,7 @@ impl Draft {
         requires { self.old.most ≤ 64 }
         ensures read { Gives (λ step. step_told (reading_of self.new) step) result (words_step self.old.most (reading_of self.old) (parts_at 32 line.now)) }
         ensures most { self.new.most ≡ self.old.most }
+        ensures ended { result ≡ Ok Step.End → reading_of self.new ≡ reading_of self.old }
     {
         let (first, words) = cut(b' ', line);
         let Some(command) = Command::from_word(first) else {
@@ -219,6 +221,7 @@ impl Draft {
         requires { self.old.most ≤ 64 }
         ensures read { Gives (λ step. step_told (reading_of self.new) step) result (line_step self.old.most (reading_of self.old) line.now) }
         ensures most { self.new.most ≡ self.old.most }
+        ensures ended { result ≡ Ok Step.End → reading_of self.new ≡ reading_of self.old }
     {
         if !all_printable(line) || !has_single_spaces(line) {
             return Err(Halt::Refused(ScriptKind::Word));

@@ -51,6 +51,20 @@ pub enum Halt {
     OutOfMemory,
 }
 
+impl Halt {
+    ghost use Rattle.trace_script.specs.Gives.{fault_at};
+
+    // The fault, where this line halted.
+    pub fn on_line(self, line: u64) -> ScriptFault
+        ensures { result ≡ fault_at line self }
+    {
+        match self {
+            Halt::Refused(kind) => ScriptFault::Refused { line, kind },
+            Halt::OutOfMemory => ScriptFault::OutOfMemory,
+        }
+    }
+}
+
 impl From<AllocError> for Halt {
     ghost from_gives = { λ _ e. e ≡ OutOfMemory };
 

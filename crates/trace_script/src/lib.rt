@@ -7,6 +7,9 @@ mod draft;
 mod fault;
 mod lines;
 mod name;
+mod reading;
+mod script;
+mod table;
 mod text;
 mod word;
 

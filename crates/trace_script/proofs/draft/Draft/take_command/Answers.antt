@@ -1,7 +1,7 @@
 use Rattle.std.proofs.lemmas.Bool.{cond-false}
 use Rattle.trace_script.specs.declared.fault.ScriptKind.TheVariants as kind
 use Rattle.trace_script.specs.Rules.{is_empty}
-use Rattle.trace_script.proofs.Cuts.{is_empty-parts}
+use Rattle.trace_script.proofs.Cuts.{is_empty_parts}
 use Rattle.trace_script.proofs.Placed.{some_client}
 use Rattle.trace_script.proofs.draft.Draft.take_command.Goals as goal
 
@@ -31,4 +31,4 @@ take_resize-requires c =
     some_client (is_empty b.clients) (is_empty b.stops) (is_empty b.schedules) kind.Word (rw c.in-Resize.is at c.requires.placed)
 
 pub returns-in-Some-clause-read : goal.returns-in-Some-clause-read
-returns-in-Some-clause-read c = rw (c.in-End.is, c.in-Some.is) (cond-false _ _ _ (is_empty-parts 32 c.in-Some.field-0.now))
+returns-in-Some-clause-read c = rw (c.in-End.is, c.in-Some.is) (cond-false _ _ _ (is_empty_parts 32 c.in-Some.field-0.now))
