@@ -1,5 +1,5 @@
 -- The entries of the maps of a script.
-use Rattle.std.proofs.Common.{◌≡◌, ℕ, ◌<◌, Bool, true, false, List, [], ◌∷◌, ◌++◌, length, map, position, Option, Some, None, is_some, refl, sym, ap, ◌∙◌, subst, arith, true≢false, slice_get, ◌-◌, suc, zero}
+use Rattle.std.proofs.Common.{◌≡◌, ℕ, ◌<◌, Bool, true, false, List, [], ◌∷◌, ◌++◌, length, map, position, Option, Some, None, is_some, refl, sym, ap, ◌∙◌, subst, arith, true≢false, slice_get, slice_index_or, ◌-◌, suc, zero}
 use Rattle.std.proofs.lemmas.List.{map-append}
 use Rattle.std.specs.Map.{keys_of, lookup}
 use Rattle.indexmap.specs.IndexMap.{IndexMap, insert_entry}
@@ -47,3 +47,13 @@ pub called-last : (es : List (List ℕ × RoomyList Call)) (old new : RoomyList 
     → slice_get (map (λ (e : List ℕ × RoomyList Call). e.1) es) (length es - 1) ≡ Some old → new.items ≡ old.items ++ call ∷ []
     → map client_view (set_value_at es (length es - 1) new) ≡ called (map client_view es) call
 called-last es old new call some at more = called-at es (length es - 1) old new call (omega arith) at more
+
+-- the name of the client in a place
+pub name-at : (es : List (List ℕ × RoomyList Call)) (i : ℕ) (e : List ℕ × RoomyList Call) → slice_get es i ≡ Some e
+    → slice_index_or (map (λ (e : List ℕ × List Call). e.0) (map client_view es)) i [] ≡ e.0
+name-at [] i e h = absurd (by h)
+  where
+    by : None ≡ Some e → ⊥
+    by p = cc
+name-at (d ∷ ds) zero e h = let same : d ≡ e = cc in ap (λ (e : List ℕ × RoomyList Call). e.0) same
+name-at (d ∷ ds) (suc i) e h = name-at ds i e h

@@ -3,7 +3,7 @@ pub mod Numbers
 pub mod Hex
 pub mod Names
 pub mod Entries
-pub mod Items
+pub mod ReadItems
 pub mod Schedules
 pub mod Placed
 pub mod Turns

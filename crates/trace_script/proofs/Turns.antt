@@ -68,6 +68,7 @@ is_all-parts c (b ∷ bs) = by (nat_eq b c) refl
     one : (p : List ℕ) (ps : List (List ℕ)) → is_all ((b ∷ p) ∷ ps) ≡ false
     one p [] = refl
     one p (q ∷ ps) = refl
+
     by : (t : Bool) → nat_eq b c ≡ t → is_all (parts_at c (b ∷ bs)) ≡ false
     by true e = let some = parts_at-some c bs in ap is_all (slice_split-cons_yes (λ x. nat_eq x c) b bs e) ∙ ap (λ (ps : List (List ℕ)). is_all ([] ∷ ps)) some.2
     by false e = let some = parts_at-some c bs in ap is_all (slice_split-cons_no (λ x. nat_eq x c) b bs e) ∙ ap (λ (ps : List (List ℕ)). is_all (onto_first b ps)) some.2 ∙ one some.0 some.1

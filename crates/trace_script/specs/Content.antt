@@ -1,5 +1,5 @@
 -- What a script has.
-use Rattle.std.specs.Prelude.{◌≡◌, ℕ, ◌+◌, Bool, nat_eq, List, [], ◌∷◌, ◌++◌, length, map, Option, Some, None, is_some, position, sum_by}
+use Rattle.std.specs.Prelude.{◌≡◌, ℕ, ◌+◌, Bool, nat_eq, List, [], ◌∷◌, ◌++◌, length, map, slice_index_or, Option, Some, None, position, sum_by}
 use Rattle.std.specs.Map.{lookup}
 use Rattle.kv_block.specs.RoomyList.{RoomyList}
 use Rattle.kv_block.specs.Bytes.{key_eq}
@@ -42,13 +42,13 @@ client_view e = (e.0, e.1.items)
 abbrev pub no_content : Content
 no_content = record { hashes = []; clients = []; stops = []; schedules = [] }
 
--- whether a key is listed
-abbrev pub is_listed : Content → List ℕ → Bool
-is_listed c key = is_some (lookup (key_eq key) c.hashes)
-
 -- the names of the clients, in order
 abbrev pub names_of : Content → List (List ℕ)
 names_of c = map (λ e. e.0) c.clients
+
+-- the calls of the client at this place, counted from 0
+abbrev pub calls_at : Content → ℕ → List Call
+calls_at c client = (slice_index_or c.clients client (let nobody : List ℕ × List Call = ([], []) in nobody)).1
 
 -- the place of the client of this name
 abbrev pub client_at : Content → List ℕ → Option ℕ

@@ -6,3 +6,4 @@ pub mod Rules
 pub mod Gives
 pub mod Drafts
 pub mod Tables
+pub mod Report

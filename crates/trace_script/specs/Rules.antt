@@ -7,6 +7,7 @@ use Rattle.map_model.specs.declared.calls.Call.TheVariants.{Insert, Search, Upda
 use Rattle.map_model.specs.declared.plans.Item.{Item}
 use Rattle.map_model.specs.declared.plans.Item.TheVariants as item
 use Rattle.kv_block.specs.Bytes.{key_eq}
+use Rattle.key_hash.specs.Placing.{is_listed}
 use Rattle.node_words.specs.Faults.{first_fault}
 use Rattle.trace_script.specs.declared.fault.ScriptKind.{ScriptKind}
 use Rattle.trace_script.specs.declared.fault.ScriptKind.TheVariants as kind
@@ -14,7 +15,7 @@ use Rattle.trace_script.specs.declared.command.Command.{Command}
 use Rattle.trace_script.specs.declared.command.Command.TheVariants as command
 use Rattle.trace_script.specs.Spelling.{is_within, is_name_byte}
 use Rattle.trace_script.specs.Words.{parts_at, number_of, key_of, value_of, hex_number_of, is_name, one_of, two_of}
-use Rattle.trace_script.specs.Content.{Content, Sizes, no_content, is_listed, names_of, client_at, stop_at, with_hash, with_client, with_call, with_stop, with_schedule}
+use Rattle.trace_script.specs.Content.{Content, Sizes, no_content, names_of, client_at, stop_at, with_hash, with_client, with_call, with_stop, with_schedule}
 
 infixl 10 ◌>>=◌
 abbrev pub ◌>>=◌ : {E A B : Type 0} → Result A E → (A → Result B E) → Result B E
@@ -68,7 +69,7 @@ abbrev pub hash_step : Content → List (List ℕ) → Result Content ScriptKind
 hash_step c words = do
   pair ← or_else kind.Word (two_of words)
   key ← or_else kind.Key (key_of pair.0)
-  if is_listed c key then Err kind.Key else (do
+  if is_listed c.hashes key then Err kind.Key else (do
     hash ← or_else kind.Number (hex_number_of pair.1)
     Ok (with_hash c key hash))
 
@@ -77,8 +78,8 @@ abbrev pub client_step : ℕ → Content → List (List ℕ) → Result Content 
 client_step most c words = do
   name ← or_else kind.Word (one_of words)
   if is_name name && is_none (client_at c name) && nat_lt (length c.clients) most
-    then Ok (with_client c name)
-    else Err kind.Client
+      then Ok (with_client c name)
+      else Err kind.Client
 
 -- the client of a name, where the name is not misspelt
 abbrev pub client_of : Content → List ℕ → Option ℕ
@@ -223,8 +224,8 @@ is_printable b = is_within 32 126 b
 abbrev pub line_step : ℕ → Reading → List ℕ → Result (Option Reading) ScriptKind
 line_step most r line =
     if list_all is_printable line && list_all (λ w. not (is_empty w)) (parts_at 32 line)
-      then words_step most r (parts_at 32 line)
-      else Err kind.Word
+    then words_step most r (parts_at 32 line)
+    else Err kind.Word
 
 -- line 1
 abbrev pub version_of : List ℕ → Result ℕ ScriptKind

@@ -18,7 +18,7 @@ abbrev pub table_words : ℕ → Sizes → List (List ℕ)
 table_words version s =
     codes "table" ∷ (codes "groups=" ++ decimal s.groups) ∷ (codes "depth=" ++ decimal s.max_depth)
     ∷ ((if version == 1 then [] else (codes "first=" ++ decimal s.first_depth) ∷ (codes "nodes=" ++ decimal s.nodes) ∷ [])
-      ++ (codes "words=" ++ decimal s.words) ∷ (codes "tries=" ++ decimal s.tries) ∷ [])
+    ++ (codes "words=" ++ decimal s.words) ∷ (codes "tries=" ++ decimal s.tries) ∷ [])
 
 abbrev pub hash_words : List ℕ × ℕ → List (List ℕ)
 hash_words e = codes "hash" ∷ spelled e.0 ∷ hex_number e.1 ∷ []

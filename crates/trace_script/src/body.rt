@@ -1,6 +1,8 @@
 //! What the lines behind the first two say.
 ghost use Rattle.std.specs.Prelude.{◌≡◌, ◌<◌, ◌≤◌, ◌++◌, ◌∷◌, ℕ, [], false, IsTrue, IsSome, Some, None, length, map, OnOk, IfSome, is_some};
-ghost use Rattle.trace_script.specs.Content.{no_content, is_listed, client_at, stop_at, with_hash, with_client, with_call, called, client_view, with_stop, with_schedule};
+ghost use Rattle.key_hash.specs.Placing.{is_listed};
+ghost use Rattle.trace_script.specs.Content.{no_content, names_of, calls_at, client_at, stop_at, with_hash, with_client, with_call, called, client_view, with_stop, with_schedule};
+ghost use Rattle.trace_script.specs.ScriptText.{name_at};
 ghost use Rattle.trace_script.specs.Rules.{is_empty};
 
 use crate::name::Name;
@@ -26,10 +28,10 @@ impl Model for Body {
     ghost Value = { Content };
 
     ghost view = { λ b. record {
-        hashes = b.hashes.entries;
-        clients = map client_view b.clients.entries;
-        stops = b.stops.entries;
-        schedules = map (λ items. items.items) b.schedules.items;
+      hashes = b.hashes.entries;
+      clients = map client_view b.clients.entries;
+      stops = b.stops.entries;
+      schedules = map (λ items. items.items) b.schedules.items;
     } };
 
     ghost invariant = { λ b. length b.clients.entries ≤ 64 };
@@ -73,8 +75,24 @@ impl Body {
         self.clients.len() as u32
     }
 
+    pub fn name(&self, client: u32) -> &[u8]
+        requires { client < length self.now.clients }
+        ensures { result.now ≡ name_at (names_of self.now) client }
+    {
+        let (name, _) = self.clients.get_index(client as usize).unwrap();
+        name.bytes()
+    }
+
+    pub fn calls(&self, client: u32) -> &Calls
+        requires { client < length self.now.clients }
+        ensures { result.now.items ≡ calls_at self.now client }
+    {
+        let (_, calls) = self.clients.get_index(client as usize).unwrap();
+        calls
+    }
+
     pub fn is_listed(&self, key: &Key) -> bool
-        ensures { result ≡ is_listed self.now key.now }
+        ensures { result ≡ is_listed self.now.hashes key.now }
     {
         self.hashes.contains_key(key)
     }
@@ -94,7 +112,7 @@ impl Body {
     }
 
     pub fn add_hash(&mut self, key: Key, hash: u64) -> Result<(), AllocError>
-        requires { is_listed self.old key ≡ false }
+        requires { is_listed self.old.hashes key ≡ false }
         ensures { OnOk result (self.new ≡ with_hash self.old key hash) }
     {
         self.hashes.insert(key, hash)?;

@@ -47,15 +47,8 @@ impl Draft {
         match command {
             Command::Hash if no_client => None,
             Command::Client if no_stop && no_schedule => None,
-            Command::Insert
-            | Command::Search
-            | Command::Update
-            | Command::Delete
-            | Command::Resize
-                if !no_client && no_stop && no_schedule =>
-            {
-                None
-            }
+            Command::Insert | Command::Search | Command::Update | Command::Delete | Command::Resize
+                if !no_client && no_stop && no_schedule => { None }
             Command::Stop | Command::Schedule | Command::End if no_client => {
                 Some(ScriptKind::Client)
             }
@@ -101,6 +94,7 @@ impl Draft {
             None => Err(Halt::Refused(ScriptKind::Value)),
         }
     }
+
     fn add_call(&mut self, call: Call) -> Result<(), AllocError>
         requires some { is_empty self.old.body.clients ≡ false }
         requires room { self.old.calls < 65536 }

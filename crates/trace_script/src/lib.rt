@@ -1,4 +1,10 @@
-//! The script and the report of a play.
+//! Scripts and reports: the bytes that a play reads, and those that it writes.
+//!
+//! A script is a text of lines: a version, the table's sizes, listed hashes, clients with their calls, stops, and the
+//! schedule. Each script has one text. Reading answers the script that bytes spell, or the first line that breaks a
+//! rule and the first rule that it breaks. The report has a line for each call of a play, the pairs of the map in the
+//! end, and counts. The crate stands on `kv_block` (keys and values), `key_hash` (listed hashes), `node_words`
+//! (geometries) and `map_model` (calls and replies). The rules of both texts stand in docs/SCRIPTS.md.
 #![tactic(auto)]
 
 mod body;
@@ -8,10 +14,15 @@ mod fault;
 mod lines;
 mod name;
 mod reading;
+mod report;
 mod script;
 mod table;
 mod text;
 mod word;
 
 pub use fault::{ScriptFault, ScriptKind};
+pub use map_model::{Item, Items, Plan, Plans};
+pub use reading::read_script;
+pub use report::{Line, Lines, Mode, Tag, reply_text, report_text};
+pub use script::Script;
 pub use text::Text;

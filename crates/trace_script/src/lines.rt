@@ -40,7 +40,12 @@ impl Body {
     }
 
     // `client NAME`, of at most `most` clients
-    pub fn take_client(&mut self, alloc: Global, most: u32, words: Option<&[u8]>) -> Result<(), Halt>
+    pub fn take_client(
+        &mut self,
+        alloc: Global,
+        most: u32,
+        words: Option<&[u8]>,
+    ) -> Result<(), Halt>
         requires { most ≤ 64 }
         ensures { Gives (λ _. self.new) result (client_step most self.old (parts_after 32 (option_map (λ rest. rest.now) words.entry))) }
     {

@@ -1,8 +1,10 @@
 //! Scripts.
 ghost use Rattle.std.specs.Prelude.{◌≡◌, ◌≤◌, ◌<◌, length};
-ghost use Rattle.trace_script.specs.Content.{ScriptValue};
+ghost use Rattle.trace_script.specs.Content.{names_of, calls_at, stop_at};
+ghost use Rattle.trace_script.specs.ScriptText.{name_at};
 
 use crate::body::Body;
+use map_model::Calls;
 use node_words::Geometry;
 use std::marker::Model;
 
@@ -42,5 +44,50 @@ impl Script {
         ensures { result ≡ self.now.version }
     {
         self.version
+    }
+    /// The geometry.
+    pub fn geometry(&self) -> Geometry
+        ensures { result ≡ self.now.geometry }
+    {
+        self.geometry
+    }
+
+    /// The tries.
+    pub fn tries(&self) -> u32
+        ensures { result ≡ self.now.tries }
+    {
+        self.tries
+    }
+
+    /// How many clients there are.
+    pub fn clients(&self) -> u32
+        ensures number { result ≡ length self.now.content.clients }
+        ensures few { result ≤ 64 }
+    {
+        self.body.clients()
+    }
+
+    /// The name of a client, counted from 0.
+    pub fn name(&self, client: u32) -> &[u8]
+        requires { client < length self.now.content.clients }
+        ensures { result.now ≡ name_at (names_of self.now.content) client }
+    {
+        self.body.name(client)
+    }
+
+    /// The calls of a client, counted from 0.
+    pub fn calls(&self, client: u32) -> &Calls
+        requires { client < length self.now.content.clients }
+        ensures { result.now.items ≡ calls_at self.now.content client }
+    {
+        self.body.calls(client)
+    }
+
+    /// After how many verbs a client, counted from 0, stops for ever, where it stops.
+    pub fn stop(&self, client: u32) -> Option<u64>
+        requires { client < length self.now.content.clients }
+        ensures { result ≡ stop_at self.now.content client }
+    {
+        self.body.stop_at(client)
     }
 }

@@ -182,7 +182,11 @@ impl Sizes {
     fn within_limits(&self, version: u32) -> Result<(Geometry, u32), ScriptKind>
         ensures { Tells (λ told. sizes_of told.0 told.1) result (if are_sizes version (numbers_told self.now) then Ok (numbers_told self.now) else Err ScriptKind.Table) }
     {
-        let most_depth = if version == 1 { MOST_DEPTH_1 } else { MOST_DEPTH_2 };
+        let most_depth = if version == 1 {
+            MOST_DEPTH_1
+        } else {
+            MOST_DEPTH_2
+        };
         if self.groups > 64
             || self.max_depth > most_depth
             || self.first_depth > 16

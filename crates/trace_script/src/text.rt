@@ -125,5 +125,9 @@ fn hex_digit_of(half: u8) -> u8
     requires { half < 16 }
     ensures { result ≡ hex_digit half }
 {
-    if half < 10 { b'0' + half } else { b'a' - 10 + half }
+    if half < 10 {
+        b'0' + half
+    } else {
+        b'a' - 10 + half
+    }
 }

@@ -189,7 +189,11 @@ fn read_escaped(alloc: Global, word: &[u8]) -> Result<Option<Vec<u8>>, AllocErro
     let Some(bytes) = read_hex(alloc, digits)? else {
         return Ok(None);
     };
-    Ok(if is_plainly_spelled(&bytes) { None } else { Some(bytes) })
+    Ok(if is_plainly_spelled(&bytes) {
+        None
+    } else {
+        Some(bytes)
+    })
 }
 
 // The key that a word spells.

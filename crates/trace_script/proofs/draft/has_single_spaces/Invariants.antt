@@ -3,7 +3,7 @@ use Rattle.std.specs.List.{list_all}
 use Rattle.std.specs.Option.{option_map}
 use Rattle.trace_script.specs.Words.{parts_after, parts_at}
 use Rattle.trace_script.specs.Rules.{is_empty}
-use Rattle.trace_script.proofs.Items.{words_left}
+use Rattle.trace_script.proofs.ReadItems.{words_left}
 use Rattle.trace_script.proofs.draft.has_single_spaces.Given as goal
 
 -- the words so far are not empty

@@ -2,7 +2,7 @@ use Rattle.std.proofs.Common.{◌≡◌}
 use Rattle.std.specs.Option.{option_map}
 use Rattle.trace_script.specs.Words.{parts_after}
 use Rattle.trace_script.specs.Rules.{items_of}
-use Rattle.trace_script.proofs.Items.{items_behind, words_left}
+use Rattle.trace_script.proofs.ReadItems.{items_behind, words_left}
 use Rattle.trace_script.proofs.body.Body.read_items.Given as goal
 
 -- the items so far, and those of the words that are left
