@@ -4,9 +4,12 @@ use Rattle.std.specs.Bool.{MatchBool}
 use Rattle.std.specs.List.{AllByRecursion}
 use Rattle.kv_block.specs.declared.changes.Change.{Change}
 use Rattle.kv_block.specs.Bytes.{key_eq}
+use Rattle.map_model.specs.declared.calls.Call.{Call}
+use Rattle.map_model.specs.declared.calls.Reply.{Reply}
 use Rattle.map_model.specs.declared.records.Record.{Record}
 use Rattle.map_model.specs.Machine.{key_of, reply_at, value_after, change_of, is_change}
 use Rattle.map_model.specs.History.{history, is_answer, IsLegal, IsFounded, IsAfter, IsAnsweredRight, Has}
+use Rattle.map_model.specs.Moments.{IsFirst}
 
 -- the calls of one key are those of a cell of one thread that has `value` at first: each call of the key gets the
 -- reply that the cell's value gives, and leaves the cell to the next
@@ -58,3 +61,8 @@ ChangeKeepsFounded = (changes : List Change) (change : Change) (records : List R
     → IsFounded changes records → is_change r.reply ≡ true → change_of r.call ≡ Some change → r.point ≡ length changes
     → IsAnsweredRight (changes ++ change ∷ []) r → AllByRecursion (IsAfter r) records
     → IsFounded (changes ++ change ∷ []) (records ++ r ∷ [])
+
+-- more changes do not move a point that is among those that there were
+abbrev pub PointsStay : Type 0
+PointsStay = (changes more : List Change) (lo : ℕ) (call : Call) (reply : Reply) (point : ℕ)
+    → point ≤ length changes → IsFirst changes lo call reply point → IsFirst (changes ++ more) lo call reply point
