@@ -16,7 +16,8 @@ all_has P [] r h g = absurd g
 all_has P (x ∷ xs) r h (inl e) = subst P e h.0
 all_has P (x ∷ xs) r h (inr g) = all_has P xs r h.1 g
 
-slice_get_at : (done : List Change) (c : Change) (cs : List Change) → slice_get (done ++ c ∷ cs) (length done) ≡ Some c
+-- the change behind those that are done
+pub slice_get_at : (done : List Change) (c : Change) (cs : List Change) → slice_get (done ++ c ∷ cs) (length done) ≡ Some c
 slice_get_at [] c cs = refl
 slice_get_at (d ∷ done) c cs = slice_get_at done c cs
 

@@ -8,3 +8,4 @@ pub mod AnyOrder
 pub mod CellAndOrder
 pub mod Order
 pub mod Tests
+pub mod FirstMoment
