@@ -43,11 +43,15 @@ steady_earlier C key value s t [] e h g = λ n low high. elim (cases_lt s n) [
   | inl later ↦ g n (omega arith) high
   | inr now ↦ let same : n ≡ s = omega arith in ap (λ (k : ℕ). fin.get (map_at C k) key) same ∙ h
 ]
-steady_earlier C key value s t (p ∷ ps) e h g =
-    (λ n low high. elim (cases_lt s n) [
-      | inl later ↦ g.0 n (omega arith) high
-      | inr now ↦ let same : n ≡ s = omega arith in ap (λ (k : ℕ). fin.get (map_at C k) key) same ∙ h
-    ], (let l = g.1 in omega arith), g.2, g.3)
+steady_earlier C key value s t (p ∷ ps) e h g = (
+  λ n low high. elim (cases_lt s n) [
+    | inl later ↦ g.0 n (omega arith) high
+    | inr now ↦ let same : n ≡ s = omega arith in ap (λ (k : ℕ). fin.get (map_at C k) key) same ∙ h
+  ],
+  (let l = g.1 in omega arith),
+  g.2,
+  g.3,
+)
 
 -- the places from the changes that are done on
 pub steady_from : (C : List Change) (key : List ℕ) (cs done : List Change) → done ++ cs ≡ C
@@ -59,19 +63,22 @@ steady_from C key [] done e = λ n low high.
 steady_from C key (c ∷ cs) done e =
     let long = length_push done c in
     let here : fin.get (map_at C (length done)) key ≡ fin.get (map_after fin.empty done) key =
-      ap (λ m. fin.get m key) (ap (λ (ds : List Change). map_at ds (length done)) (sym e) ∙ map_at_front done (c ∷ cs)) in
+    ap (λ m. fin.get m key) (ap (λ (ds : List Change). map_at ds (length done)) (sym e) ∙ map_at_front done (c ∷ cs)) in
     let ih = steady_from C key cs (done ++ c ∷ []) (append_assoc done (c ∷ []) cs ∙ e) in
     let next : Steady C key (cond (key_eq key c.key) c.value (fin.get (map_after fin.empty done) key)) (length done + 1) (places_from key (length done + 1) cs) =
-      subst (λ o. Steady C key o (length done + 1) (places_from key (length done + 1) cs)) (get-push done c key)
-        (subst (λ (k : ℕ). Steady C key (fin.get (map_after fin.empty (done ++ c ∷ [])) key) k (places_from key k cs)) long ih) in
+    subst (λ o. Steady C key o (length done + 1) (places_from key (length done + 1) cs)) (get-push done c key)
+    (subst (λ (k : ℕ). Steady C key (fin.get (map_after fin.empty (done ++ c ∷ [])) key) k (places_from key k cs)) long ih) in
     let value : value_of C (length done) ≡ c.value = ap (λ (ds : List Change). value_of ds (length done)) (sym e) ∙ value_of_at done c cs in
     let total = ap length e in
     let parts = length-append done (c ∷ cs) in
     elim (key_eq key c.key) as (λ b. Steady C key (cond b c.value (fin.get (map_after fin.empty done) key)) (length done + 1) (places_from key (length done + 1) cs)
-        → Steady C key (fin.get (map_after fin.empty done) key) (length done) (cond b (length done ∷ places_from key (length done + 1) cs) (places_from key (length done + 1) cs))) [
-      | true ↦ λ g.
-          (λ n low high. let same : n ≡ length done = omega arith in ap (λ (k : ℕ). fin.get (map_at C k) key) same ∙ here, (omega arith), omega (arith, parts, total),
-           subst (λ o. Steady C key o (length done + 1) (places_from key (length done + 1) cs)) (sym value) g)
+    → Steady C key (fin.get (map_after fin.empty done) key) (length done) (cond b (length done ∷ places_from key (length done + 1) cs) (places_from key (length done + 1) cs))) [
+      | true ↦ λ g. (
+        λ n low high. let same : n ≡ length done = omega arith in ap (λ (k : ℕ). fin.get (map_at C k) key) same ∙ here,
+        (omega arith),
+        omega (arith, parts, total),
+        subst (λ o. Steady C key o (length done + 1) (places_from key (length done + 1) cs)) (sym value) g,
+      )
       | false ↦ λ g. steady_earlier C key (fin.get (map_after fin.empty done) key) (length done) (length done + 1) (places_from key (length done + 1) cs) refl here g
     ] next
 
@@ -82,7 +89,7 @@ places_from-append key n [] ds = ap (λ (k : ℕ). places_from key k ds) (omega 
 places_from-append key n (c ∷ cs) ds =
     let ih = places_from-append key (n + 1) cs ds ∙ ap (λ (k : ℕ). places_from key (n + 1) cs ++ places_from key k ds) (omega arith) in
     elim (key_eq key c.key) as (λ b. cond b (n ∷ places_from key (n + 1) (cs ++ ds)) (places_from key (n + 1) (cs ++ ds))
-        ≡ cond b (n ∷ places_from key (n + 1) cs) (places_from key (n + 1) cs) ++ places_from key (n + length (c ∷ cs)) ds) [
+    ≡ cond b (n ∷ places_from key (n + 1) cs) (places_from key (n + 1) cs) ++ places_from key (n + length (c ∷ cs)) ds) [
       | true ↦ ap (λ (ps : List ℕ). n ∷ ps) ih
       | false ↦ ih
     ]
@@ -151,11 +158,11 @@ latest_after C key (c ∷ cs) done rest e =
     let long = length_push done c in
     let ih = latest_after C key cs (done ++ c ∷ []) rest (append_assoc done (c ∷ []) (cs ++ rest) ∙ e) ∙ ap (λ (ds : List Change). fin.get (map_after fin.empty ds) key) (append_assoc done (c ∷ []) cs) in
     let next : latest C (cond (key_eq key c.key) c.value (fin.get (map_after fin.empty done) key)) (places_from key (length done + 1) cs) ≡ fin.get (map_after fin.empty (done ++ c ∷ cs)) key =
-      subst (λ (k : ℕ). latest C (cond (key_eq key c.key) c.value (fin.get (map_after fin.empty done) key)) (places_from key k cs) ≡ fin.get (map_after fin.empty (done ++ c ∷ cs)) key) long
-        (ap (λ o. latest C o (places_from key (length (done ++ c ∷ [])) cs)) (sym (get-push done c key)) ∙ ih) in
+    subst (λ (k : ℕ). latest C (cond (key_eq key c.key) c.value (fin.get (map_after fin.empty done) key)) (places_from key k cs) ≡ fin.get (map_after fin.empty (done ++ c ∷ cs)) key) long
+    (ap (λ o. latest C o (places_from key (length (done ++ c ∷ [])) cs)) (sym (get-push done c key)) ∙ ih) in
     let value : value_of C (length done) ≡ c.value = ap (λ (ds : List Change). value_of ds (length done)) (sym e) ∙ value_of_at done c (cs ++ rest) in
     elim (key_eq key c.key) as (λ b. latest C (cond b c.value (fin.get (map_after fin.empty done) key)) (places_from key (length done + 1) cs) ≡ fin.get (map_after fin.empty (done ++ c ∷ cs)) key
-        → latest C (fin.get (map_after fin.empty done) key) (cond b (length done ∷ places_from key (length done + 1) cs) (places_from key (length done + 1) cs)) ≡ fin.get (map_after fin.empty (done ++ c ∷ cs)) key) [
+    → latest C (fin.get (map_after fin.empty done) key) (cond b (length done ∷ places_from key (length done + 1) cs) (places_from key (length done + 1) cs)) ≡ fin.get (map_after fin.empty (done ++ c ∷ cs)) key) [
       | true ↦ λ g. ap (λ o. latest C o (places_from key (length done + 1) cs)) value ∙ g
       | false ↦ λ g. g
     ] next
@@ -185,10 +192,10 @@ pub steady_at : (C : List Change) (key : List ℕ) (lo : ℕ) → lo ≤ length 
 steady_at C key lo h =
     let long = length-take-le lo C h in
     let value : latest C None (places_from key 0 (take lo C)) ≡ fin.get (map_at C lo) key =
-      ap (λ o. latest C o (places_from key 0 (take lo C))) (sym (fin.get-empty key_cmp key)) ∙ latest_after C key (take lo C) [] (drop lo C) (take-append-drop lo C) in
+    ap (λ o. latest C o (places_from key 0 (take lo C))) (sym (fin.get-empty key_cmp key)) ∙ latest_after C key (take lo C) [] (drop lo C) (take-append-drop lo C) in
     let all = steady_from C key (drop lo C) (take lo C) (take-append-drop lo C) in
     subst (λ o. Steady C key o lo (places_from key lo (drop lo C))) (sym value)
-      (subst (λ (k : ℕ). Steady C key (fin.get (map_at C lo) key) k (places_from key k (drop lo C))) long all)
+    (subst (λ (k : ℕ). Steady C key (fin.get (map_at C lo) key) k (places_from key k (drop lo C))) long all)
 
 -- ---- the steps of the walk
 
@@ -208,7 +215,7 @@ first_here C lo start call reply value low high before same e = record {
   from = low;
   upto = omega arith;
   gives = λ _. ap (reply_at call) same ∙ e;
-  earlier = before
+  earlier = before;
 }
 
 pub first_never : (C : List Change) (lo : ℕ) (call : Call) (reply : Reply) → lo ≤ length C
@@ -217,7 +224,7 @@ first_never C lo call reply low before = record {
   from = omega arith;
   upto = omega arith;
   gives = λ h. absurd (omega arith);
-  earlier = before
+  earlier = before;
 }
 
 -- ---- one change more
@@ -226,6 +233,18 @@ pub places_from-push : (key : List ℕ) (cs : List Change) (c : Change) → plac
 places_from-push key cs c =
     places_from-append key 0 cs (c ∷ []) ∙ ap (λ (k : ℕ). places_from key 0 cs ++ places_from key k (c ∷ [])) (omega arith)
     ∙ elim (key_eq key c.key) as (λ b. places_from key 0 cs ++ cond b (length cs ∷ []) [] ≡ cond b (places_from key 0 cs ++ length cs ∷ []) (places_from key 0 cs)) [
-        | true ↦ refl
-        | false ↦ append-nil (places_from key 0 cs)
-      ]
+      | true ↦ refl
+      | false ↦ append-nil (places_from key 0 cs)
+    ]
+
+-- what the key has at `start`
+pub steady_value : (C : List Change) (key : List ℕ) (value : Option (List ℕ)) (start : ℕ) (ps : List ℕ) → start ≤ length C → Steady C key value start ps → fin.get (map_at C start) key ≡ value
+steady_value C key value start [] h g = g start (omega arith) h
+steady_value C key value start (p ∷ ps) h g = g.0 start (omega arith) g.1
+
+-- the places below `lo` are cut off
+pub cut_front : (xs ys ps : List ℕ) (from : ℕ) → ps ≡ xs ++ ys → from ≡ length xs → take from ps ≡ xs
+cut_front xs ys ps from e f = (λ i. take (f i) (e i)) ∙ take_at xs ys (length xs) refl
+
+pub cut_back : (xs ys ps : List ℕ) (from : ℕ) → ps ≡ xs ++ ys → from ≡ length xs → drop from ps ≡ ys
+cut_back xs ys ps from e f = (λ i. drop (f i) (e i)) ∙ drop_at xs ys (length xs) refl

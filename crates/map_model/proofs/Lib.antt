@@ -9,3 +9,4 @@ pub mod CellAndOrder
 pub mod Order
 pub mod Tests
 pub mod FirstMoment
+pub mod PlacesKept

@@ -45,7 +45,7 @@ pub enum Reply {
 
 impl Call {
     ghost use Rattle.std.specs.Prelude.{◌≡◌};
-    ghost use Rattle.map_model.specs.Machine.{key_of, change_of};
+    ghost use Rattle.map_model.specs.Machine.{key_of, reply_at, change_of};
 
     /// The key that the call is about.
     pub fn key(&self) -> Key
@@ -57,6 +57,25 @@ impl Call {
             | Call::Update { key, value: _ }
             | Call::Delete { key }
             | Call::Resize { key } => key,
+        }
+    }
+
+    /// The map's reply to the call, by what it has at the call's key; None exactly at a resize.
+    pub fn reply_at(&self, value: Option<Value>) -> Option<Reply>
+        ensures { result ≡ reply_at self.now value }
+    {
+        match *self {
+            Call::Insert { key: _, value: _ } => Some(value.map_or(
+                Reply::Inserted,
+                |v| Reply::Exists(v),
+            )),
+            Call::Search { key: _ } => Some(value.map_or(Reply::Missing, |v| Reply::Found(v))),
+            Call::Update { key: _, value: _ } => Some(value.map_or(
+                Reply::Missing,
+                |v| Reply::Updated(v),
+            )),
+            Call::Delete { key: _ } => Some(value.map_or(Reply::Missing, |v| Reply::Deleted(v))),
+            Call::Resize { key: _ } => None,
         }
     }
 

@@ -13,6 +13,7 @@ pub mod machine;
 pub mod nexts;
 pub mod plans;
 pub mod records;
+pub mod timeline;
 
 pub use calls::{Call, Calls, Reply};
 pub use histories::{history, is_legal};
@@ -22,3 +23,7 @@ pub use machine::{MapMachine, map_at};
 pub use nexts::Nexts;
 pub use plans::{Item, Items, Plan, Plans};
 pub use records::{Record, Records};
+pub use timeline::Timeline;
+
+#[cfg(test)]
+mod tests;

@@ -6,5 +6,5 @@ use Rattle.map_model.proofs.histories.are_all_made.Given as goal
 abbrev pub invariant-loop-answered : goal.invariant-loop-answered
 invariant-loop-answered l = record {
   upto : l.n ≤ length l.changes;
-  left : (made (drop l.answered-index l.history) ≡ numbered l.n (drop l.n l.changes)) ↔ (made l.history ≡ numbered 0 l.changes)
+  left : (made (drop l.answered-index l.history) ≡ numbered l.n (drop l.n l.changes)) ↔ (made l.history ≡ numbered 0 l.changes);
 }

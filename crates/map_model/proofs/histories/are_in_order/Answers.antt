@@ -15,5 +15,5 @@ loop-i-preserved c =
     record {
       upto = omega (arith, c.loop-i.invariant.upto);
       ordered = back_true c.args.records.now (c.loop-i.i - 1) c.loop-i.i c.index-records-i.result _ at (c.get.ensures.value ∙ c.loop-i.invariant.nexts c.index-records-i.result.client) c.if-not-comes_before.ensures c.loop-i.invariant.ordered;
-      nexts = λ q. back_next c.args.records.now (c.loop-i.i - 1) c.loop-i.i q c.index-records-i.result _ _ at (c.loop-i.invariant.nexts q) (c.in_ok-insert.ensures.updates.0 q)
+      nexts = λ q. back_next c.args.records.now (c.loop-i.i - 1) c.loop-i.i q c.index-records-i.result _ _ at (c.loop-i.invariant.nexts q) (c.in_ok-insert.ensures.updates.0 q);
     }

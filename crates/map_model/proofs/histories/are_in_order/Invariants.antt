@@ -9,7 +9,7 @@ abbrev pub invariant-loop-i : goal.invariant-loop-i
 invariant-loop-i l = record {
   upto : l.i ≤ length l.records;
   ordered : in_order (drop l.i l.records) ≡ true;
-  nexts : (client : ℕ) → tree.get nat_cmp l.nexts client ≡ find (λ s. eqb s.client client) (drop l.i l.records)
+  nexts : (client : ℕ) → tree.get nat_cmp l.nexts client ≡ find (λ s. eqb s.client client) (drop l.i l.records);
 }
 
 abbrev pub decreases-loop-i : goal.decreases-loop-i

@@ -1,0 +1,13 @@
+use Rattle.std.proofs.Common.{◌≡◌, ◌≢◌, ℕ, ◌+◌, ◌<◌, ◌≤◌, ◌∷◌, List, length, drop, get_or, Some, sym, ap, subst, arith, rules}
+use Rattle.std.proofs.lemmas.List.{drop_more}
+use Rattle.map_model.specs.Machine.{key_of}
+use Rattle.map_model.specs.Moments.{Steady}
+use Rattle.map_model.proofs.FirstMoment.{steady_value, later_than, first_here, first_never}
+use Rattle.map_model.proofs.timeline.first_from.Goals as goal
+
+pub returns-then-gives : goal.returns-then-gives
+returns-then-gives c =
+    let i = c.loop-place.invariant in
+    first_here c.args.changes.now c.args.lo c.loop-place.start c.args.call.now c.args.reply.now c.loop-place.value i.low i.high i.before
+    (steady_value c.args.changes.now (key_of c.args.call.now) c.loop-place.value c.loop-place.start _ i.high i.steady)
+    (c.gives.ensures.0 c.if-gives.true)
