@@ -138,7 +138,7 @@ fn quiet_calls_stand_before_the_change_of_their_point(rt: HostRuntime) -> Result
     let mut given = Records::new(alloc);
     given.push(records()?[3])?;
     given.push(answered(&Call::Search { key: k }, Reply::Missing, 4, 1, 0, 3, 3))?;
-    given.push(changed(
+    given.push(answered(
         &Call::Resize { key: k },
         Reply::Again { lost: 1 },
         4,
