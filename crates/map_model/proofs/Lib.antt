@@ -7,6 +7,6 @@ pub mod Points
 pub mod AnyOrder
 pub mod CellAndOrder
 pub mod Order
-pub mod Tests
+pub mod LegalSteps
 pub mod FirstMoment
 pub mod PlacesKept

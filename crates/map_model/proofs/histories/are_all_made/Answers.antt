@@ -2,7 +2,7 @@ use Rattle.std.proofs.Common.{◌≡◌, ◌↔◌, List, [], drop, length, subs
 use Rattle.std.proofs.lemmas.List.{drop_all}
 use Rattle.map_model.specs.declared.records.Record.{Record}
 use Rattle.map_model.specs.History.{made, numbered}
-use Rattle.map_model.proofs.Tests.{none_left, none_left_only}
+use Rattle.map_model.proofs.LegalSteps.{none_left, none_left_only}
 use Rattle.map_model.proofs.histories.are_all_made.Goals as goal
 
 pub returns : goal.returns

@@ -1,5 +1,5 @@
 use Rattle.std.proofs.Common.{◌≡◌, ℕ, ◌-◌, ◌+◌, ◌<◌, ◌∷◌, drop, length, sym, ◌∙◌, arith}
-use Rattle.map_model.proofs.Tests.{from_place, back_false, back_true, back_next}
+use Rattle.map_model.proofs.LegalSteps.{from_place, back_false, back_true, back_next}
 use Rattle.map_model.proofs.histories.are_in_order.Goals as goal
 
 pub returns-then-not-comes_before : goal.returns-then-not-comes_before
