@@ -1,0 +1,2 @@
+//! What makes a log of verbs legal.
+#![tactic(auto)]
