@@ -1,5 +1,5 @@
 -- Places that are done with: after a clear position a place never again has a live or moved word of a leaving key.
-use Rattle.std.specs.Prelude.{◌≡◌, ◌≢◌, ℕ, zero, suc, ◌+◌, ◌-◌, ◌*◌, ◌/◌, ◌%◌, ◌^◌, ◌<◌, ◌≤◌, Bool, true, false, cond, ◌&&◌, ◌==◌, List, [], ◌∷◌, Option, Some, None, ◌⊎◌, refl}
+use Rattle.std.specs.Prelude.{not, nat_lt, ◌≡◌, ◌≢◌, ℕ, zero, suc, ◌+◌, ◌-◌, ◌*◌, ◌/◌, ◌%◌, ◌^◌, ◌<◌, ◌≤◌, Bool, true, false, cond, ◌&&◌, ◌==◌, List, [], ◌∷◌, Option, Some, None, ◌⊎◌, refl}
 use Rattle.std.proofs.Common.{sym, ◌∙◌, ap, subst, inl, inr, arith, ⊎_elim}
 use Rattle.slot_word.specs.declared.slots.Mark.{Mark}
 use Rattle.slot_word.specs.declared.slots.Mark.TheVariants.{Live, Pending, Copied, Moved}
@@ -16,7 +16,7 @@ use Rattle.verb_log.specs.declared.entry.Entry.{Entry}
 use Rattle.verb_log.specs.declared.kind.Kind.{Kind}
 use Rattle.verb_log.specs.declared.kind.Kind.TheVariants.{Store, Take, Place, Drop, Commit, Replace, Remove, Lock, Unlock, Link, Begin, Open, Copy, Uncopy, Flip, Settle, Clear, Finish, Close, Ripen, Name, Deepen}
 use Rattle.verb_log.specs.Decoded.{Body, Content, Empty, Full, NoSlot, content, Header, PlainAt, SplittingAt, FillingAt, NoHeader, header, birth}
-use Rattle.verb_log.specs.Tables.{Past, Before, here, later, word_at, words_at, pair_at, table_of, role, is_published}
+use Rattle.verb_log.specs.Tables.{Past, Before, here, later, word_at, words_at, pair_at, table_of, role, is_taken, is_published}
 use Rattle.verb_log.specs.Kinds.{kind, kind_of_role, only_if, header_kind, bucket_kind, lock_kind}
 use Rattle.race_laws.specs.Setting.{Setting, hash, main_of}
 use Rattle.race_laws.specs.Standing.{IsTable, header_in, birth_in, child_in, bucket_in, place_in, key_header, depth, IsFilling, IsGone, Exits, Stays, Word}
@@ -52,60 +52,90 @@ some_words g past b q h = by b.length refl
 some_same : (t u : ℕ) (o : Option ℕ) → o ≡ Some t → o ≡ Some u → t ≡ u
 some_same t u o h k = cc
 
--- a placed entry is on a slot
-only_no : (f : Bool) (k j : Kind) → k ≢ j → only_if f k ≢ Some j
-only_no true k j n h = n (cc)
-only_no false k j n h = cc
+-- the kinds of entries on slots
+abbrev pub is_slot_kind : Kind → Bool
+is_slot_kind Place = true
+is_slot_kind Drop = true
+is_slot_kind Commit = true
+is_slot_kind Replace = true
+is_slot_kind Remove = true
+is_slot_kind Copy = true
+is_slot_kind Uncopy = true
+is_slot_kind Flip = true
+is_slot_kind Settle = true
+is_slot_kind Clear = true
+is_slot_kind Store = false
+is_slot_kind Take = false
+is_slot_kind Lock = false
+is_slot_kind Unlock = false
+is_slot_kind Link = false
+is_slot_kind Begin = false
+is_slot_kind Open = false
+is_slot_kind Finish = false
+is_slot_kind Close = false
+is_slot_kind Ripen = false
+is_slot_kind Name = false
+is_slot_kind Deepen = false
 
-header_no_place : (x y : Header) → header_kind x y ≢ Some Place
-header_no_place (PlainAt d) (PlainAt e) h = cc
-header_no_place (PlainAt d) (SplittingAt e) h = only_no _ Open Place (λ x. cc) h
-header_no_place (PlainAt d) (FillingAt e) h = cc
-header_no_place (PlainAt d) NoHeader h = cc
-header_no_place (SplittingAt d) (PlainAt e) h = only_no _ Finish Place (λ x. cc) h
-header_no_place (SplittingAt d) (SplittingAt e) h = cc
-header_no_place (SplittingAt d) (FillingAt e) h = cc
-header_no_place (SplittingAt d) NoHeader h = cc
-header_no_place (FillingAt d) (PlainAt e) h = only_no _ Ripen Place (λ x. cc) h
-header_no_place (FillingAt d) (SplittingAt e) h = cc
-header_no_place (FillingAt d) (FillingAt e) h = cc
-header_no_place (FillingAt d) NoHeader h = cc
-header_no_place NoHeader y h = cc
-
-bucket_no_place : (x y : Header) → bucket_kind x y ≢ Some Place
-bucket_no_place (PlainAt d) (PlainAt e) h = cc
-bucket_no_place (PlainAt d) (SplittingAt e) h = only_no _ Begin Place (λ x. cc) h
-bucket_no_place (PlainAt d) (FillingAt e) h = cc
-bucket_no_place (PlainAt d) NoHeader h = cc
-bucket_no_place (SplittingAt d) (PlainAt e) h = only_no _ Close Place (λ x. cc) h
-bucket_no_place (SplittingAt d) (SplittingAt e) h = cc
-bucket_no_place (SplittingAt d) (FillingAt e) h = cc
-bucket_no_place (SplittingAt d) NoHeader h = cc
-bucket_no_place (FillingAt d) (PlainAt e) h = only_no _ Ripen Place (λ x. cc) h
-bucket_no_place (FillingAt d) (SplittingAt e) h = cc
-bucket_no_place (FillingAt d) (FillingAt e) h = cc
-bucket_no_place (FillingAt d) NoHeader h = cc
-bucket_no_place NoHeader y h = cc
-
-lock_no_place : (e : Entry) → lock_kind e ≢ Some Place
-lock_no_place e h = by _ h
+only_no : (f : Bool) (k j : Kind) → is_slot_kind k ≡ false → is_slot_kind j ≡ true → only_if f k ≢ Some j
+only_no true k j n y h = let z = ap is_slot_kind (same h) in cc
   where
-    by : (f : Bool) → cond f (Some Lock) (only_if ((e.old == e.client + 1) && (e.new == 0)) Unlock) ≢ Some Place
-    by true h = cc
-    by false h = only_no _ Unlock Place (λ x. cc) h
+    same : Some k ≡ Some j → k ≡ j
+    same h = cc
+only_no false k j n y h = cc
 
-pub place_on_slot : (g : Geometry) (past : Past) (e : Entry) (r : Role) → kind_of_role g past e r ≡ Some Place → (t : ℕ) × (p : ℕ) × (r ≡ SlotWord t p)
-place_on_slot g past e (NextWord k) h = absurd (only_no _ Take Place (λ x. cc) h)
-place_on_slot g past e DepthWord h = absurd (only_no _ Deepen Place (λ x. cc) h)
-place_on_slot g past e (DirectoryWord j) h = absurd (only_no _ Name Place (λ x. cc) h)
-place_on_slot g past e (BirthWord t) h = absurd (cc)
-place_on_slot g past e (HeaderWord t) h = absurd (header_no_place (header e.old) (header e.new) h)
-place_on_slot g past e (LockWord t) h = absurd (lock_no_place e h)
-place_on_slot g past e ReservedWord h = absurd (cc)
-place_on_slot g past e (ChildWord t i) h = absurd (only_no _ Link Place (λ x. cc) h)
-place_on_slot g past e (BucketWord t n) h = absurd (bucket_no_place (header e.old) (header e.new) h)
-place_on_slot g past e (SlotWord t p) h = (t, p, refl)
-place_on_slot g past e HeapWord h = absurd (only_no _ Store Place (λ x. cc) h)
+header_no_slot : (x y : Header) (j : Kind) → is_slot_kind j ≡ true → header_kind x y ≢ Some j
+header_no_slot (PlainAt d) (PlainAt e) j k h = cc
+header_no_slot (PlainAt d) (SplittingAt e) j k h = only_no (e == d) Open j refl k h
+header_no_slot (PlainAt d) (FillingAt e) j k h = cc
+header_no_slot (PlainAt d) NoHeader j k h = cc
+header_no_slot (SplittingAt d) (PlainAt e) j k h = only_no (e == d + 1) Finish j refl k h
+header_no_slot (SplittingAt d) (SplittingAt e) j k h = cc
+header_no_slot (SplittingAt d) (FillingAt e) j k h = cc
+header_no_slot (SplittingAt d) NoHeader j k h = cc
+header_no_slot (FillingAt d) (PlainAt e) j k h = only_no (e == d) Ripen j refl k h
+header_no_slot (FillingAt d) (SplittingAt e) j k h = cc
+header_no_slot (FillingAt d) (FillingAt e) j k h = cc
+header_no_slot (FillingAt d) NoHeader j k h = cc
+header_no_slot NoHeader y j k h = cc
+
+bucket_no_slot : (x y : Header) (j : Kind) → is_slot_kind j ≡ true → bucket_kind x y ≢ Some j
+bucket_no_slot (PlainAt d) (PlainAt e) j k h = cc
+bucket_no_slot (PlainAt d) (SplittingAt e) j k h = only_no (e == d) Begin j refl k h
+bucket_no_slot (PlainAt d) (FillingAt e) j k h = cc
+bucket_no_slot (PlainAt d) NoHeader j k h = cc
+bucket_no_slot (SplittingAt d) (PlainAt e) j k h = only_no (e == d + 1) Close j refl k h
+bucket_no_slot (SplittingAt d) (SplittingAt e) j k h = cc
+bucket_no_slot (SplittingAt d) (FillingAt e) j k h = cc
+bucket_no_slot (SplittingAt d) NoHeader j k h = cc
+bucket_no_slot (FillingAt d) (PlainAt e) j k h = only_no (e == d) Ripen j refl k h
+bucket_no_slot (FillingAt d) (SplittingAt e) j k h = cc
+bucket_no_slot (FillingAt d) (FillingAt e) j k h = cc
+bucket_no_slot (FillingAt d) NoHeader j k h = cc
+bucket_no_slot NoHeader y j k h = cc
+
+lock_no_slot : (e : Entry) (j : Kind) → is_slot_kind j ≡ true → lock_kind e ≢ Some j
+lock_no_slot e j k h = by ((e.old == 0) && (e.new == e.client + 1)) h
+  where
+    lock_is : Some Lock ≡ Some j → Lock ≡ j
+    lock_is h = cc
+    by : (f : Bool) → cond f (Some Lock) (only_if ((e.old == e.client + 1) && (e.new == 0)) Unlock) ≢ Some j
+    by true h = let z = ap is_slot_kind (lock_is h) in cc
+    by false h = only_no ((e.old == e.client + 1) && (e.new == 0)) Unlock j refl k h
+
+-- an entry of such a kind is on a slot
+pub on_slot : (g : Geometry) (past : Past) (e : Entry) (r : Role) (j : Kind) → is_slot_kind j ≡ true → kind_of_role g past e r ≡ Some j → (t : ℕ) × (p : ℕ) × (r ≡ SlotWord t p)
+on_slot g past e (NextWord k) j y h = absurd (only_no (nat_lt e.old e.new) Take j refl y h)
+on_slot g past e DepthWord j y h = absurd (only_no (e.new == e.old + 1) Deepen j refl y h)
+on_slot g past e (DirectoryWord i) j y h = absurd (only_no (not (e.new == 0)) Name j refl y h)
+on_slot g past e (BirthWord t) j y h = absurd (cc)
+on_slot g past e (HeaderWord t) j y h = absurd (header_no_slot (header e.old) (header e.new) j y h)
+on_slot g past e (LockWord t) j y h = absurd (lock_no_slot e j y h)
+on_slot g past e ReservedWord j y h = absurd (cc)
+on_slot g past e (ChildWord t i) j y h = absurd (only_no ((e.old == 0) && not (e.new == 0)) Link j refl y h)
+on_slot g past e (BucketWord t n) j y h = absurd (bucket_no_slot (header e.old) (header e.new) j y h)
+on_slot g past e (SlotWord t p) j y h = (t, p, refl)
+on_slot g past e HeapWord j y h = absurd (only_no (is_taken g past e.at && not (is_published g past e.at)) Store j refl y h)
 
 -- where an entry placed a word, and what stands there since
 pub record WasPlaced (g : Geometry) (before : Past) (placed : Entry) (t p : ℕ) : Type 0 where
@@ -115,7 +145,7 @@ pub record WasPlaced (g : Geometry) (before : Past) (placed : Entry) (t p : ℕ)
 
 pub was_placed : (s : Setting) (before : Past) (placed : Entry) → Sound s.geometry before → kind s.geometry before placed ≡ Some Place → (t p : ℕ) × WasPlaced s.geometry before placed t p
 was_placed s before placed so k =
-    let x = place_on_slot s.geometry before placed (role s.geometry before placed.at) k in
+    let x = on_slot s.geometry before placed (role s.geometry before placed.at) Place refl k in
     let y = slot_place_of s.geometry before so placed.at x.0 x.1 x.2 in
     (x.0, x.1, record { table = so.whole placed.at x.0 y.2 x.0 (omega arith) (low x.0); place = y.0; at = sym y.1 })
   where

@@ -136,7 +136,7 @@ path s {x = x} (later {q = q} {e = e} bf) l a key all t u p r b c pb pc h k = by
         not_zero = table_some s.geometry q (sound s q l.0) u tb
 
     by : Was s q e key u r c → ((u2 r2 : ℕ) (c2 : Body) (pc2 : Pair) → Home s q key u2 r2 c2 pc2 → (p ≡ r2) × (born_at s.geometry x t ≤ born_at s.geometry q u2)) → Somewhere s q key → (p ≡ r) × (born_at s.geometry x t ≤ born_at s.geometry (e ∷ q) u)
-    by (there d pd hm f) ih sw = let z = ih u r d pd hm in let y = kept hm.table in (z.0, omega arith)
+    by (there d pd hm f rp) ih sw = let z = ih u r d pd hm in let y = kept hm.table in (z.0, omega arith)
     by (flipped pd hm tb cp mo at) ih sw = let z = ih (parent_of s.geometry q u) r c pd hm in let y = kept tb in let v = deeper tb cp in (z.0, omega arith)
     by (committed pd tb at kd o n v pk kk row) ih sw = absurd (a.1 u r c pd tb k.place at o v pk row (subst (Somewhere s q) (sym kk) sw))
 
@@ -154,7 +154,7 @@ copy_back s {x = x} (later {q = q} {e = e} bf) l a key all t p b c d pb pc h k w
     body_is (as_copy v m) = full_same Copied Copied c d (sym v ∙ w)
 
     by : Was s q e key t p c → ((c2 : Body) (pc2 : Pair) → Home s q key t p c2 pc2 → place_in s.geometry q t p ≡ Full Copied d → (place_in s.geometry x t p ≡ Full Copied d) × (place_in s.geometry x (parent_of s.geometry x t) p ≡ Full Moved d)) → Somewhere s q key → (place_in s.geometry x t p ≡ Full Copied d) × (place_in s.geometry x (parent_of s.geometry x t) p ≡ Full Moved d)
-    by (there d2 pd hm f) ih sw =
+    by (there d2 pd hm f rp) ih sw =
         let same = body_is k.stands in
         let st = (f (w ∙ ap (Full Copied) (sym same))).0 ∙ ap (Full Copied) same in
         ih d2 pd hm st
@@ -234,7 +234,7 @@ trace s {from = from} (later {q = q} {e = e} bf) l key w = by (was s q e l key w
         longer e2 q2 a z b (later k) = a z b k
 
     by : Was s q e key w.table w.place w.body → (Somewhere s q key → AllHomes s key from q ⊎ LastCommit s key from q) → AllHomes s key from (e ∷ q) ⊎ LastCommit s key from (e ∷ q)
-    by (there d pd hm f) ih = from_earlier (ih (record { table = w.table; place = w.place; body = d; pair = pd; home = hm }))
+    by (there d pd hm f rp) ih = from_earlier (ih (record { table = w.table; place = w.place; body = d; pair = pd; home = hm }))
     by (flipped pd hm tb cp mo at) ih = from_earlier (ih (record { table = parent_of s.geometry q w.table; place = w.place; body = w.body; pair = pd; home = hm }))
     by (committed pd tb at kd o n v pk kk row) ih = inr (record {
       past = q;

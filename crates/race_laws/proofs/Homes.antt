@@ -10,7 +10,7 @@ use Rattle.node_words.specs.Addresses.{header_at, slot_at}
 use Rattle.node_words.specs.Roles.{SlotWord}
 use Rattle.verb_log.specs.declared.entry.Entry.{Entry}
 use Rattle.verb_log.specs.declared.kind.Kind.{Kind}
-use Rattle.verb_log.specs.declared.kind.Kind.TheVariants.{Commit}
+use Rattle.verb_log.specs.declared.kind.Kind.TheVariants.{Commit, Replace}
 use Rattle.verb_log.specs.Decoded.{Body, Content, Empty, Full, NoSlot, content, Header, PlainAt, SplittingAt, FillingAt, NoHeader, header}
 use Rattle.verb_log.specs.Tables.{Past, Before, here, later, word_at, pair_at, role}
 use Rattle.verb_log.specs.Kinds.{kind}
@@ -67,10 +67,16 @@ same_child s q l t u p r b c h k x y v w e =
     let level : a.kin.level ≡ d.kin.level = ap depth (sym a.splits ∙ ap (header_in s.geometry q) e ∙ d.splits) in
     sym a.kin.is_child ∙ ap (λ z. child_in s.geometry q z a.kin.level) e ∙ ap (child_in s.geometry q (parent_of s.geometry q u)) level ∙ d.kin.is_child
 
+-- the entry replaces the live word of the slot by one of this block
+pub record IsReplaced (s : Setting) (q : Past) (e : Entry) (t p : ℕ) (b : Body) : Type 0 where
+  pub at : slot_at t p ≡ e.at
+  pub kind : kind s.geometry q e ≡ Some Replace
+  pub new : content e.new ≡ Full Live b
+
 -- where a home was one entry before
 pub data Was (s : Setting) (q : Past) (e : Entry) (key : List ℕ) (t p : ℕ) (b : Body) : Type 0 where
   -- in the same slot; and a copy was this copy, its moved word with it
-  there : (c : Body) (pc : Pair) → Home s q key t p c pc → (place_in s.geometry (e ∷ q) t p ≡ Full Copied b → (place_in s.geometry q t p ≡ Full Copied b) × (place_in s.geometry q (parent_of s.geometry q t) p ≡ Full Moved b)) → Was s q e key t p b
+  there : (c : Body) (pc : Pair) → Home s q key t p c pc → (place_in s.geometry (e ∷ q) t p ≡ Full Copied b → (place_in s.geometry q t p ≡ Full Copied b) × (place_in s.geometry q (parent_of s.geometry q t) p ≡ Full Moved b)) → (c ≡ b) ⊎ IsReplaced s q e t p b → Was s q e key t p b
   -- live in the parent, and this entry flips it
   flipped : (pc : Pair) → Home s q key (parent_of s.geometry q t) p b pc → IsTable s.geometry q t → place_in s.geometry q t p ≡ Full Copied b → place_in s.geometry (e ∷ q) (parent_of s.geometry q t) p ≡ Full Moved b → slot_at (parent_of s.geometry q t) p ≡ e.at → Was s q e key t p b
   -- nowhere: this entry commits it
@@ -108,7 +114,7 @@ module _ (s : Setting) (q : Past) (e : Entry) (l : Legal s (e ∷ q)) (key : Lis
       let same = full_same Live Live row.new_body b (sym row.word ∙ v) in
       let on = ap (role s.geometry q) (sym z) ∙ slot_is s.geometry q so t p h k in
       let nk = pairs (fresh_packs s q e l.0 l.1 so ss t p e.client row.new_body row.new_pair on row.fresh) (ap (pair_at s.geometry (e ∷ q)) same ∙ pk) in
-      there row.body row.pair (by_holder c row.body row.pair row.holder (old z Live c o) (sym row.same_key ∙ nk ∙ kk)) (λ y. absurd (cc))
+      there row.body row.pair (by_holder c row.body row.pair row.holder (old z Live c o) (sym row.same_key ∙ nk ∙ kk)) (λ y. absurd (cc)) (inr (record { at = z; kind = i; new = v }))
     where
       pairs : {o : Option Pair} {x y : Pair} → o ≡ Some x → o ≡ Some y → x.key ≡ y.key
       pairs h k = cc
@@ -121,7 +127,7 @@ module _ (s : Setting) (q : Past) (e : Entry) (l : Legal s (e ∷ q)) (key : Lis
       let moved = full_same Live Live row.body b (sym row.word ∙ v) in
       let st : place_in s.geometry q t p ≡ Full Copied b = old z Copied b (subst (λ x. content (word_at s.geometry q e.at) ≡ Full Copied x) same o) in
       let mo : place_in s.geometry q (parent_of s.geometry q t) p ≡ Full Moved b = subst (λ x. place_in s.geometry q (parent_of s.geometry q t) p ≡ Full Moved x) moved row.moved in
-      there b pr (record { table = h; place = k; packs = pair_back Copied t p b pr h k st pk; same_key = kk; stands = as_copy st mo }) (λ y. absurd (cc))
+      there b pr (record { table = h; place = k; packs = pair_back Copied t p b pr h k st pk; same_key = kk; stands = as_copy st mo }) (λ y. absurd (cc)) (inl refl)
   was_live b pr pk kk w z (clear c i o n row) v = absurd (cc)
 
   flip_moved : (u : ℕ) (b : Body) → SlotStep s q e u p → content e.new ≡ Full Moved b → content (word_at s.geometry q e.at) ≡ Full Live b
@@ -155,7 +161,7 @@ module _ (s : Setting) (q : Past) (e : Entry) (l : Legal s (e ∷ q)) (key : Lis
       let pq = pair_back Copied t p b pr h k st pk in
       ⊎_elim
       (λ (x : place_in s.geometry (e ∷ q) (parent_of s.geometry q t) p ≡ place_in s.geometry q (parent_of s.geometry q t) p).
-      let mq = sym x ∙ mo in there b pr (record { table = h; place = k; packs = pq; same_key = kk; stands = as_copy st mq }) (λ y. (st, mq)))
+      let mq = sym x ∙ mo in there b pr (record { table = h; place = k; packs = pq; same_key = kk; stands = as_copy st mq }) (λ y. (st, mq)) (inl refl))
       (λ x.
       let o = flip_moved (parent_of s.geometry q t) b x.2 (sym x.0 ∙ mo) in
       let liv = ap (λ v. content (word_at s.geometry q v)) x.1 ∙ o in
@@ -177,7 +183,7 @@ module _ (s : Setting) (q : Past) (e : Entry) (l : Legal s (e ∷ q)) (key : Lis
   was_stands b pr pk kk (as_live w) = ⊎_elim
       (λ (x : place_in s.geometry (e ∷ q) t p ≡ place_in s.geometry q t p).
       let st = sym x ∙ w in
-      there b pr (record { table = h; place = k; packs = pair_back Live t p b pr h k st pk; same_key = kk; stands = as_live st }) (λ y. absurd (cc)))
+      there b pr (record { table = h; place = k; packs = pair_back Live t p b pr h k st pk; same_key = kk; stands = as_live st }) (λ y. absurd (cc)) (inl refl))
       (λ x. was_live b pr pk kk w x.1 x.2 (sym x.0 ∙ w)) (slot_cases s q e l.1 so t h p k)
   was_stands b pr pk kk (as_copy w mo) =
       let mq = subst (λ v. place_in s.geometry (e ∷ q) v p ≡ Full Moved b) parent_kept mo in
@@ -240,19 +246,19 @@ one_home s (e ∷ q) l a key t u p r b c pb pc x y = by (was s q e l key t p b p
     again e2 f2 = same_home_at s (e ∷ q) key t u p r b c pb pc x y e2 f2
 
     by : Was s q e key t p b → Was s q e key u r c → ((t2 u2 p2 r2 : ℕ) (b2 c2 : Body) (pb2 pc2 : Pair) → Home s q key t2 p2 b2 pb2 → Home s q key u2 r2 c2 pc2 → SameHome t2 u2 p2 r2 b2 c2) → SameHome t u p r b c
-    by (there d pd h f) (there d2 pd2 h2 f2) ih = let z = ih t u p r d d2 pd pd2 h h2 in again z.table z.place
-    by (there d pd h f) (flipped pd2 h2 tb2 cp2 mo2 at2) ih =
+    by (there d pd h f rp) (there d2 pd2 h2 f2 rp2) ih = let z = ih t u p r d d2 pd pd2 h h2 in again z.table z.place
+    by (there d pd h f rp) (flipped pd2 h2 tb2 cp2 mo2 at2) ih =
         let z = ih t (parent_of s.geometry q u) p r d c pd pd2 h h2 in
         absurd (no_moved s.geometry (e ∷ q) t p b c x.stands (ap (λ v. place_in s.geometry (e ∷ q) v p) z.table ∙ ap (place_in s.geometry (e ∷ q) (parent_of s.geometry q u)) z.place ∙ mo2))
-    by (there d pd h f) (committed pd2 tb2 at2 kd2 o2 n2 v2 pk2 kk2 row2) ih = absurd (a.1 u r c pd2 tb2 y.place at2 o2 v2 pk2 row2 (somewhere t p d pd pd2.key kk2 h))
-    by (flipped pd h tb cp mo at) (there d2 pd2 h2 f2) ih =
+    by (there d pd h f rp) (committed pd2 tb2 at2 kd2 o2 n2 v2 pk2 kk2 row2) ih = absurd (a.1 u r c pd2 tb2 y.place at2 o2 v2 pk2 row2 (somewhere t p d pd pd2.key kk2 h))
+    by (flipped pd h tb cp mo at) (there d2 pd2 h2 f2 rp2) ih =
         let z = ih (parent_of s.geometry q t) u p r b d2 pd pd2 h h2 in
         absurd (no_moved s.geometry (e ∷ q) u r c b y.stands (ap (λ v. place_in s.geometry (e ∷ q) v r) (sym z.table) ∙ ap (place_in s.geometry (e ∷ q) (parent_of s.geometry q t)) (sym z.place) ∙ mo))
     by (flipped pd h tb cp mo at) (flipped pd2 h2 tb2 cp2 mo2 at2) ih =
         let z = ih (parent_of s.geometry q t) (parent_of s.geometry q u) p r b c pd pd2 h h2 in
         again (same_child s q l.0 t u p r b c tb tb2 x.place y.place cp cp2 z.table) z.place
     by (flipped pd h tb cp mo at) (committed pd2 tb2 at2 kd2 o2 n2 v2 pk2 kk2 row2) ih = absurd (a.1 u r c pd2 tb2 y.place at2 o2 v2 pk2 row2 (somewhere (parent_of s.geometry q t) p b pd pd2.key kk2 h))
-    by (committed pd tb at kd o n v pk kk row) (there d2 pd2 h2 f2) ih = absurd (a.1 t p b pd tb x.place at o v pk row (somewhere u r d2 pd2 pd.key kk h2))
+    by (committed pd tb at kd o n v pk kk row) (there d2 pd2 h2 f2 rp2) ih = absurd (a.1 t p b pd tb x.place at o v pk row (somewhere u r d2 pd2 pd.key kk h2))
     by (committed pd tb at kd o n v pk kk row) (flipped pd2 h2 tb2 cp2 mo2 at2) ih = absurd (a.1 t p b pd tb x.place at o v pk row (somewhere (parent_of s.geometry q u) r c pd2 pd.key kk h2))
     by (committed pd tb at kd o n v pk kk row) (committed pd2 tb2 at2 kd2 o2 n2 v2 pk2 kk2 row2) ih =
         let z = same_slot s.geometry q (sound s q l.0) t p u r tb tb2 x.place y.place (at ∙ sym at2) in again (sym z.0) (sym z.1)
