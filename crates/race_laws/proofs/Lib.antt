@@ -15,3 +15,5 @@ pub mod Seats
 pub mod Homes
 pub mod Tracks
 pub mod Commits
+pub mod Onward
+
