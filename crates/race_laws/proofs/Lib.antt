@@ -17,3 +17,4 @@ pub mod Tracks
 pub mod Commits
 pub mod Onward
 
+pub mod Maps
