@@ -18,3 +18,9 @@ pub mod Commits
 pub mod Onward
 
 pub mod Maps
+pub mod Presence
+
+
+pub mod InOrder
+
+pub mod TheLaws

@@ -233,7 +233,7 @@ module _ (s : Setting) (q : Past) (e : Entry) (l : Legal s (e ∷ q)) (ih : MapH
   emptied t p b at n (as_copy w m) = let z = ap content (word_put s.geometry q e (slot_at t p) at) in cc
 
   -- no home of a key whose only home an entry takes away
-  taken_none : (key : List ℕ) (t p : ℕ) (b : Body) (pr : Pair) → Home s (e ∷ q) key t p b pr → (u r : ℕ) (c : Body) (pc : Pair) → Home s q key u r c pc → slot_at u r ≡ e.at → content e.new ≡ Empty → kind s.geometry q e ≢ Some Commit → ⊥
+  pub taken_none : (key : List ℕ) (t p : ℕ) (b : Body) (pr : Pair) → Home s (e ∷ q) key t p b pr → (u r : ℕ) (c : Body) (pc : Pair) → Home s q key u r c pc → slot_at u r ≡ e.at → content e.new ≡ Empty → kind s.geometry q e ≢ Some Commit → ⊥
   taken_none key t p b pr hm u r c pc old at n nc = by (was s q e l key t p b pr hm)
     where
       by : Was s q e key t p b → ⊥

@@ -5,3 +5,5 @@ pub mod Splits
 pub mod Looks
 pub mod Rows
 pub mod Legal
+pub mod Laws
+
