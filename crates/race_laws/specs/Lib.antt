@@ -6,4 +6,5 @@ pub mod Looks
 pub mod Rows
 pub mod Legal
 pub mod Laws
+pub mod Leaving
 
