@@ -1,18 +1,16 @@
 -- The chain of a hash: it only grows, its tables are told apart by their birth depths, and a key is gone from each table but
 -- the last.
-use Rattle.std.specs.Prelude.{◌≡◌, ◌≢◌, ℕ, zero, suc, ◌+◌, ◌-◌, ◌*◌, ◌/◌, ◌%◌, ◌^◌, ◌<◌, ◌≤◌, List, [], ◌∷◌, Option, Some, None, ◌⊎◌, refl}
+use Rattle.std.specs.Prelude.{◌≡◌, ◌≢◌, ℕ, ◌%◌, ◌^◌, ◌<◌, ◌≤◌, [], ◌∷◌, Option, Some, ◌⊎◌, refl}
 use Rattle.std.proofs.Common.{sym, ◌∙◌, ap, subst, inl, inr, arith, ⊎_elim}
 use Rattle.std.proofs.lemmas.Nat.{pow_pos, mod_below}
 use Rattle.slot_word.specs.declared.births.Birth.{Birth}
 use Rattle.bucket_group.specs.ExitLevel.{exit_level}
-use Rattle.bucket_group.proofs.ExitLaws.{exit-some, exit-below, exit_suffix}
+use Rattle.bucket_group.proofs.ExitLaws.{exit-some, exit-below}
 use Rattle.node_words.specs.declared.geometry.Geometry.{Geometry}
-use Rattle.node_words.specs.Addresses.{table_words, first_table}
-use Rattle.node_words.proofs.FirstTables.{first_table_apart, in_first}
-use Rattle.verb_log.specs.declared.entry.Entry.{Entry}
-use Rattle.verb_log.specs.Decoded.{Header, PlainAt, SplittingAt, FillingAt, NoHeader}
-use Rattle.verb_log.specs.Tables.{Past, Before, here, later, table_of}
-use Rattle.race_laws.specs.Setting.{Setting, hash}
+use Rattle.node_words.specs.Addresses.{first_table}
+use Rattle.node_words.proofs.FirstTables.{in_first}
+use Rattle.verb_log.specs.Tables.{Past, Before, here, later}
+use Rattle.race_laws.specs.Setting.{Setting}
 use Rattle.race_laws.specs.Standing.{IsTable, header_in, birth_in, child_in, depth, IsFilling, IsGone}
 use Rattle.race_laws.specs.Chains.{OnChain, starts, goes_on}
 use Rattle.race_laws.specs.Legal.{Legal}
@@ -20,9 +18,9 @@ use Rattle.race_laws.proofs.Positions.{legal_before}
 use Rattle.race_laws.proofs.SoundStep.{table_before}
 use Rattle.race_laws.proofs.Frames.{birth_before, child_before}
 use Rattle.race_laws.proofs.Finality.{gone_before}
-use Rattle.race_laws.proofs.Splits.{IsFirst, Born, Kin, Splits}
+use Rattle.race_laws.proofs.Splits.{Born, Splits}
 use Rattle.race_laws.proofs.SplitsStep.{filling_depth}
-use Rattle.race_laws.proofs.Opening.{splits, splits_at}
+use Rattle.race_laws.proofs.Opening.{splits}
 
 pub before_opening : (q : Past) → Before [] q
 before_opening [] = here

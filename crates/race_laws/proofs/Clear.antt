@@ -1,6 +1,6 @@
 -- Places that are done with: after a clear position a place never again has a live or moved word of a leaving key.
-use Rattle.std.specs.Prelude.{not, nat_lt, ◌≡◌, ◌≢◌, ℕ, zero, suc, ◌+◌, ◌-◌, ◌*◌, ◌/◌, ◌%◌, ◌^◌, ◌<◌, ◌≤◌, Bool, true, false, cond, ◌&&◌, ◌==◌, List, [], ◌∷◌, Option, Some, None, ◌⊎◌, refl}
-use Rattle.std.proofs.Common.{sym, ◌∙◌, ap, subst, inl, inr, arith, ⊎_elim}
+use Rattle.std.specs.Prelude.{not, nat_lt, ◌≡◌, ◌≢◌, ℕ, zero, suc, ◌+◌, ◌<◌, ◌≤◌, Bool, true, false, cond, ◌&&◌, ◌==◌, List, [], ◌∷◌, Option, Some, None, refl}
+use Rattle.std.proofs.Common.{sym, ◌∙◌, ap, subst, arith, ⊎_elim}
 use Rattle.slot_word.specs.declared.slots.Mark.{Mark}
 use Rattle.slot_word.specs.declared.slots.Mark.TheVariants.{Live, Pending, Copied, Moved}
 use Rattle.slot_word.specs.declared.births.Birth.{Birth}
@@ -10,31 +10,31 @@ use Rattle.bucket_group.proofs.ExitLaws.{exit-some}
 use Rattle.bucket_group.proofs.CandidateLaws.{first_below}
 use Rattle.node_words.specs.declared.geometry.Geometry.{Geometry}
 use Rattle.node_words.specs.Addresses.{table_words, slot_at}
-use Rattle.node_words.specs.Roles.{Role, NextWord, DepthWord, DirectoryWord, BirthWord, HeaderWord, LockWord, ReservedWord, ChildWord, BucketWord, SlotWord, HeapWord, role_in}
+use Rattle.node_words.specs.Roles.{Role, NextWord, DepthWord, DirectoryWord, BirthWord, HeaderWord, LockWord, ReservedWord, ChildWord, BucketWord, SlotWord, HeapWord}
 use Rattle.node_words.proofs.Sizes.{some_groups}
 use Rattle.verb_log.specs.declared.entry.Entry.{Entry}
 use Rattle.verb_log.specs.declared.kind.Kind.{Kind}
 use Rattle.verb_log.specs.declared.kind.Kind.TheVariants.{Store, Take, Place, Drop, Commit, Replace, Remove, Lock, Unlock, Link, Begin, Open, Copy, Uncopy, Flip, Settle, Clear, Finish, Close, Ripen, Name, Deepen}
-use Rattle.verb_log.specs.Decoded.{Body, Content, Empty, Full, NoSlot, content, Header, PlainAt, SplittingAt, FillingAt, NoHeader, header, birth}
+use Rattle.verb_log.specs.Decoded.{Body, Full, content, Header, PlainAt, SplittingAt, FillingAt, NoHeader, header}
 use Rattle.verb_log.specs.Tables.{Past, Before, here, later, word_at, words_at, pair_at, table_of, role, is_taken, is_published}
 use Rattle.verb_log.specs.Kinds.{kind, kind_of_role, only_if, header_kind, bucket_kind, lock_kind}
 use Rattle.race_laws.specs.Setting.{Setting, hash, main_of}
-use Rattle.race_laws.specs.Standing.{IsTable, header_in, birth_in, child_in, bucket_in, place_in, key_header, depth, IsFilling, IsGone, Exits, Stays, Word}
+use Rattle.race_laws.specs.Standing.{IsTable, header_in, birth_in, place_in, key_header, depth, IsFilling, IsGone, Exits, Stays, Word}
 use Rattle.race_laws.specs.Chains.{Holder, live, copied}
-use Rattle.race_laws.specs.Splits.{IsOpen, IsClear, WasClear}
-use Rattle.race_laws.specs.Looks.{Passing, begins, goes_on, Misses, PassedBy, InOrder, Between, Reading, Searched, Swept}
-use Rattle.race_laws.specs.Rows.{IsPlace, IsFresh, IsPlacedSwept, CommitRow}
+use Rattle.race_laws.specs.Splits.{IsOpen, IsClear}
+use Rattle.race_laws.specs.Looks.{Passing, begins, goes_on, InOrder, Between, Reading, Searched, Swept}
+use Rattle.race_laws.specs.Rows.{IsPlace, IsPlacedSwept}
 use Rattle.race_laws.specs.Legal.{Meets, Legal}
 use Rattle.race_laws.proofs.Positions.{before_trans, legal_before, before_total}
 use Rattle.race_laws.proofs.Step.{SlotStep, place, drop, commit, replace, remove, copy, uncopy, flip, settle, clear}
-use Rattle.race_laws.proofs.Touch.{same_or_not, word_put, table_stays}
+use Rattle.race_laws.proofs.Touch.{word_put, table_stays}
 use Rattle.race_laws.proofs.Sound.{Sound, Named, table_some}
 use Rattle.race_laws.proofs.SoundStep.{sound, sounds, table_before, slot_is, slot_place_of, standing_named, full_same, named_at, packs_kept, packs_later, fresh_packs}
-use Rattle.race_laws.proofs.Frames.{birth_kept, birth_before, slot_cases}
+use Rattle.race_laws.proofs.Frames.{birth_before, slot_cases}
 use Rattle.race_laws.proofs.Finality.{gone_before, open_before}
-use Rattle.race_laws.proofs.Splits.{Kin, Under, Splits}
+use Rattle.race_laws.proofs.Splits.{Under, Splits}
 use Rattle.race_laws.proofs.SplitsStep.{filling_depth}
-use Rattle.race_laws.proofs.Opening.{splits, splits_at}
+use Rattle.race_laws.proofs.Opening.{splits}
 
 unpacked-empty : unpacked [] ≡ None
 unfolding unpacked
@@ -119,6 +119,7 @@ lock_no_slot e j k h = by ((e.old == 0) && (e.new == e.client + 1)) h
   where
     lock_is : Some Lock ≡ Some j → Lock ≡ j
     lock_is h = cc
+
     by : (f : Bool) → cond f (Some Lock) (only_if ((e.old == e.client + 1) && (e.new == 0)) Unlock) ≢ Some j
     by true h = let z = ap is_slot_kind (lock_is h) in cc
     by false h = only_no ((e.old == e.client + 1) && (e.new == 0)) Unlock j refl k h

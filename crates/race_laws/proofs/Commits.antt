@@ -1,37 +1,33 @@
 -- A legal commit finds no holder of its key: a pass from its Place on would have met it.
-use Rattle.std.specs.Prelude.{◌≡◌, ◌≢◌, ℕ, zero, suc, ◌+◌, ◌-◌, ◌*◌, ◌%◌, ◌<◌, ◌≤◌, List, [], ◌∷◌, length, Option, Some, None, ◌⊎◌, refl}
+use Rattle.std.specs.Prelude.{◌≡◌, ◌≢◌, ℕ, ◌<◌, ◌≤◌, List, [], ◌∷◌, length, Option, Some, ◌⊎◌, refl}
 use Rattle.std.proofs.Common.{sym, ◌∙◌, ap, subst, inl, inr, arith, ⊎_elim}
 use Rattle.std.proofs.lemmas.Bool.{cases_lt}
-use Rattle.slot_word.specs.declared.slots.Mark.{Mark}
 use Rattle.slot_word.specs.declared.slots.Mark.TheVariants.{Live, Pending, Copied, Moved}
 use Rattle.slot_word.specs.declared.births.Birth.{Birth}
 use Rattle.kv_block.specs.Packing.{Pair}
 use Rattle.bucket_group.specs.ExitLevel.{exit_level}
 use Rattle.bucket_group.proofs.ExitLaws.{exit-some, exit-below}
-use Rattle.node_words.specs.declared.geometry.Geometry.{Geometry}
 use Rattle.node_words.specs.Addresses.{slot_at}
 use Rattle.verb_log.specs.declared.entry.Entry.{Entry}
-use Rattle.verb_log.specs.declared.kind.Kind.TheVariants.{Commit}
-use Rattle.verb_log.specs.Decoded.{Body, Content, Empty, Full, NoSlot, content, Header, PlainAt, SplittingAt, FillingAt, NoHeader}
+use Rattle.verb_log.specs.Decoded.{Body, Full, content, Header, PlainAt, SplittingAt, FillingAt, NoHeader}
 use Rattle.verb_log.specs.Tables.{Past, Before, here, later, word_at, pair_at}
 use Rattle.race_laws.specs.Setting.{Setting, hash, places}
-use Rattle.race_laws.specs.Standing.{IsTable, header_in, birth_in, child_in, place_in, depth, IsFilling, IsGone, Exits, Word, IsIn}
+use Rattle.race_laws.specs.Standing.{IsTable, header_in, child_in, place_in, depth, IsFilling, IsGone, Exits, IsIn}
 use Rattle.race_laws.specs.Chains.{OnChain}
-use Rattle.race_laws.specs.Looks.{InOrder, Between, PassedBy, Swept}
+use Rattle.race_laws.specs.Looks.{Swept}
 use Rattle.race_laws.specs.Rows.{IsPlace, CommitRow, IsPlacedSwept}
 use Rattle.race_laws.specs.Legal.{Meets, Legal}
 use Rattle.race_laws.proofs.Positions.{before_trans, before_total, legal_before}
 use Rattle.race_laws.proofs.Touch.{same_or_not, table_stays}
 use Rattle.race_laws.proofs.Sound.{table_some}
-use Rattle.race_laws.proofs.SoundStep.{sound, table_before, standing_named, full_same, packs_later, named_at}
-use Rattle.race_laws.proofs.Frames.{birth_kept, birth_before}
-use Rattle.race_laws.proofs.Splits.{Kin, Under, Splits}
+use Rattle.race_laws.proofs.SoundStep.{sound, table_before, standing_named, full_same, packs_later}
+use Rattle.race_laws.proofs.Frames.{birth_kept}
 use Rattle.race_laws.proofs.SplitsStep.{filling_depth}
 use Rattle.race_laws.proofs.Opening.{splits}
 use Rattle.race_laws.proofs.Clear.{Origin, origin, pending_between, no_commit, copy_fills, exits_later}
-use Rattle.race_laws.proofs.Chain.{born_at, born_before, Further, chain_table, chain_same, chain_before, way_down, further_born, filling_last}
+use Rattle.race_laws.proofs.Chain.{born_at, born_before, Further, chain_table, chain_same, way_down, further_born, filling_last}
 use Rattle.race_laws.proofs.Seats.{Seat, seats, finished, not_left}
-use Rattle.race_laws.proofs.Homes.{parent_of, Stands, as_live, as_copy, Home, Somewhere, Was, there, flipped, committed, was, Lonely, Alone, SameHome, one_home}
+use Rattle.race_laws.proofs.Homes.{parent_of, Stands, as_live, as_copy, Home, Somewhere, Was, there, flipped, committed, was, Lonely, Alone, one_home}
 use Rattle.race_laws.proofs.Tracks.{Shows, live_word, copy_word, pending_word, Track, in_order_passed, no_pass}
 
 -- positions one way are not the other way

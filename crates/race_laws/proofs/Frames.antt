@@ -1,22 +1,21 @@
 -- The words of a table of the log, and what an entry may do to each.
-use Rattle.std.specs.Prelude.{◌≡◌, ◌≢◌, ℕ, zero, suc, ◌+◌, ◌-◌, ◌*◌, ◌/◌, ◌%◌, ◌<◌, ◌≤◌, Bool, true, false, List, [], ◌∷◌, Option, Some, None, ◌⊎◌, refl}
-use Rattle.std.proofs.Common.{sym, ◌∙◌, ap, subst, inl, inr, arith, ⊎_elim}
-use Rattle.slot_word.specs.declared.births.Birth.{Birth}
+use Rattle.std.specs.Prelude.{◌≡◌, ◌≢◌, ℕ, ◌+◌, ◌*◌, ◌<◌, ◌∷◌, Some, ◌⊎◌, refl}
+use Rattle.std.proofs.Common.{sym, ◌∙◌, ap, inl, inr, arith, ⊎_elim}
 use Rattle.node_words.specs.declared.geometry.Geometry.{Geometry}
-use Rattle.node_words.specs.Addresses.{node_size, node_of, node_at, table_words, first_free, birth_at, header_at, lock_at, child_at, slot_at, bucket_header_at}
-use Rattle.node_words.specs.Roles.{Role, NextWord, DepthWord, DirectoryWord, BirthWord, HeaderWord, LockWord, ReservedWord, ChildWord, BucketWord, SlotWord, HeapWord, role_in}
-use Rattle.node_words.proofs.RoleLemmas.{birth_role, header_role, lock_role, child_role, bucket_role, header_in as header_address, child_in as child_address, bucket_in as bucket_address}
+use Rattle.node_words.specs.Addresses.{table_words, header_at, lock_at, child_at, slot_at, bucket_header_at}
+use Rattle.node_words.specs.Roles.{BirthWord, HeaderWord, LockWord, ChildWord, BucketWord, SlotWord, role_in}
+use Rattle.node_words.proofs.RoleLemmas.{birth_role, header_role, lock_role, child_role, bucket_role}
 use Rattle.verb_log.specs.declared.entry.Entry.{Entry}
-use Rattle.verb_log.specs.Decoded.{Header, PlainAt, SplittingAt, FillingAt, NoHeader, header, birth, Body, Content, Full, content}
-use Rattle.verb_log.specs.Tables.{Past, Before, here, later, word_at, table_of, role, links}
+use Rattle.verb_log.specs.Decoded.{header, birth, content}
+use Rattle.verb_log.specs.Tables.{Past, Before, here, later, word_at, table_of, role}
 use Rattle.race_laws.specs.Setting.{Setting}
-use Rattle.race_laws.specs.Standing.{IsTable, header_in, birth_in, lock_in, child_in, bucket_in, place_in, depth, IsFilling, IsGone}
+use Rattle.race_laws.specs.Standing.{IsTable, header_in, birth_in, lock_in, child_in, bucket_in, place_in}
 use Rattle.race_laws.specs.Rows.{IsPlace, LinkRow}
 use Rattle.race_laws.specs.Legal.{Meets, Legal}
-use Rattle.race_laws.proofs.Step.{StepAt, step_of, SlotStep, HeaderStep, BucketStep, LockStep}
-use Rattle.race_laws.proofs.Touch.{same_or_not, word_kept, word_put, touched, table_stays}
+use Rattle.race_laws.proofs.Step.{SlotStep, HeaderStep, BucketStep, LockStep}
+use Rattle.race_laws.proofs.Touch.{word_put, touched}
 use Rattle.race_laws.proofs.Sound.{Sound}
-use Rattle.race_laws.proofs.SoundStep.{sound, table_before, slot_is, links_child}
+use Rattle.race_laws.proofs.SoundStep.{sound, table_before, slot_is}
 
 module _ (g : Geometry) (past : Past) (so : Sound g past) (t : ℕ) (h : IsTable g past t) where
   inside : (o : ℕ) → o < table_words g → table_of g past (t + o) ≡ Some t

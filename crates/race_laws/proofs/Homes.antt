@@ -1,34 +1,29 @@
 -- The slot that holds a key: where it was one entry before, and that there is one alone as long as no commit finds another.
-use Rattle.std.specs.Prelude.{◌≡◌, ◌≢◌, ℕ, zero, suc, ◌+◌, ◌-◌, ◌*◌, ◌%◌, ◌<◌, ◌≤◌, List, [], ◌∷◌, Option, Some, None, ◌⊎◌, refl}
+use Rattle.std.specs.Prelude.{◌≡◌, ◌≢◌, ℕ, List, [], ◌∷◌, Option, Some, ◌⊎◌, refl}
 use Rattle.std.proofs.Common.{sym, ◌∙◌, ap, subst, inl, inr, arith, ⊎_elim}
 use Rattle.slot_word.specs.declared.slots.Mark.{Mark}
 use Rattle.slot_word.specs.declared.slots.Mark.TheVariants.{Live, Pending, Copied, Moved}
 use Rattle.slot_word.specs.declared.births.Birth.{Birth}
 use Rattle.kv_block.specs.Packing.{Pair}
 use Rattle.node_words.specs.declared.geometry.Geometry.{Geometry}
-use Rattle.node_words.specs.Addresses.{header_at, slot_at}
-use Rattle.node_words.specs.Roles.{SlotWord}
+use Rattle.node_words.specs.Addresses.{slot_at}
 use Rattle.verb_log.specs.declared.entry.Entry.{Entry}
-use Rattle.verb_log.specs.declared.kind.Kind.{Kind}
 use Rattle.verb_log.specs.declared.kind.Kind.TheVariants.{Commit, Replace}
-use Rattle.verb_log.specs.Decoded.{Body, Content, Empty, Full, NoSlot, content, Header, PlainAt, SplittingAt, FillingAt, NoHeader, header}
-use Rattle.verb_log.specs.Tables.{Past, Before, here, later, word_at, pair_at, role}
+use Rattle.verb_log.specs.Decoded.{Body, Empty, Full, content}
+use Rattle.verb_log.specs.Tables.{Past, Before, word_at, pair_at, role}
 use Rattle.verb_log.specs.Kinds.{kind}
-use Rattle.race_laws.specs.Setting.{Setting, hash, places}
-use Rattle.race_laws.specs.Standing.{IsTable, header_in, birth_in, child_in, place_in, depth, IsFilling, IsGone, Exits, Word, IsIn}
-use Rattle.race_laws.specs.Chains.{OnChain, goes_on, Holder, live, copied}
+use Rattle.race_laws.specs.Setting.{Setting}
+use Rattle.race_laws.specs.Standing.{IsTable, header_in, birth_in, child_in, place_in, depth}
+use Rattle.race_laws.specs.Chains.{Holder, live, copied}
 use Rattle.race_laws.specs.Rows.{IsPlace, CommitRow}
-use Rattle.race_laws.specs.Legal.{Meets, Legal}
-use Rattle.race_laws.proofs.Positions.{legal_before, before_trans}
+use Rattle.race_laws.specs.Legal.{Legal}
 use Rattle.race_laws.proofs.Step.{SlotStep, place, drop, commit, replace, remove, copy, uncopy, flip, settle, clear}
-use Rattle.race_laws.proofs.Touch.{same_or_not, table_stays}
-use Rattle.race_laws.proofs.Sound.{Sound, Named, table_some}
-use Rattle.race_laws.proofs.SoundStep.{sound, sounds, table_before, slot_is, slot_place_of, standing_named, full_same, named_at, packs_kept, packs_later, fresh_packs}
-use Rattle.race_laws.proofs.Frames.{birth_kept, birth_before, header_cases, slot_cases}
-use Rattle.race_laws.proofs.Splits.{IsFirst, Kin, Under, Splits, Linked, new_table, new_slot}
+use Rattle.race_laws.proofs.Sound.{Sound}
+use Rattle.race_laws.proofs.SoundStep.{sound, sounds, table_before, slot_is, standing_named, full_same, packs_kept, fresh_packs}
+use Rattle.race_laws.proofs.Frames.{birth_kept, slot_cases}
+use Rattle.race_laws.proofs.Splits.{new_table, new_slot}
 use Rattle.race_laws.proofs.Opening.{splits, opening_empty_slot}
 use Rattle.race_laws.proofs.Clear.{same_slot}
-use Rattle.race_laws.proofs.Seats.{Seat, seats}
 
 -- the table from which a table was split
 abbrev pub parent_of : Geometry → Past → ℕ → ℕ

@@ -1,7 +1,7 @@
 -- The positions of a log in order.
-use Rattle.std.specs.Prelude.{◌≡◌, ℕ, zero, suc, ◌+◌, ◌-◌, ◌<◌, ◌≤◌, List, [], ◌∷◌, ◌++◌, length, take, drop, reverse, ◌⊎◌, refl}
-use Rattle.std.proofs.Common.{sym, ◌∙◌, ap, subst, inl, inr, arith, ⊎_elim}
-use Rattle.std.proofs.lemmas.List.{reverse-append, length-reverse, take_all, take_at, length-take-le, length-append, take-take}
+use Rattle.std.specs.Prelude.{◌≡◌, ℕ, ◌+◌, ◌-◌, ◌≤◌, List, [], ◌∷◌, ◌++◌, length, take, drop, reverse, refl}
+use Rattle.std.proofs.Common.{sym, ◌∙◌, ap, subst, arith}
+use Rattle.std.proofs.lemmas.List.{reverse-append, length-reverse, take_all, take_at, length-take-le, take-take}
 use Rattle.std.proofs.Math.Seq.{take-add}
 use mathlib.Core.List.{reverse-reverse}
 use Rattle.verb_log.specs.declared.entry.Entry.{Entry}
@@ -9,7 +9,7 @@ use Rattle.verb_log.specs.Tables.{Past, Before, here, later}
 use Rattle.race_laws.specs.Setting.{Setting}
 use Rattle.race_laws.specs.Legal.{Legal, IsLegal}
 use Rattle.race_laws.specs.Laws.{position}
-use Rattle.race_laws.proofs.Positions.{before_trans, legal_before}
+use Rattle.race_laws.proofs.Positions.{legal_before}
 use Rattle.race_laws.proofs.Commits.{before_length}
 
 pub before_append : (rest p : Past) → Before p (rest ++ p)
@@ -26,6 +26,7 @@ positions_before log n m h = subst (Before (position log n)) (sym parts ∙ ap (
   where
     sum : n ≤ m → n + (m - n) ≡ m
     sum h = omega arith
+
     parts : position log (n + (m - n)) ≡ reverse (take (m - n) (drop n log)) ++ position log n
     parts = ap reverse (take-add n (m - n) log) ∙ reverse-append (take n log) (take (m - n) (drop n log))
 

@@ -16,11 +16,8 @@ pub mod Homes
 pub mod Tracks
 pub mod Commits
 pub mod Onward
-
 pub mod Maps
 pub mod Presence
-
-
 pub mod InOrder
-
 pub mod TheLaws
+pub mod Rights

@@ -1,15 +1,14 @@
 -- The map of all changes has a key exactly where a slot holds it, with the value of its block.
-use Rattle.std.specs.Prelude.{◌≡◌, ◌≢◌, ℕ, zero, suc, ◌+◌, ◌<◌, ◌≤◌, Bool, true, false, cond, List, [], ◌∷◌, ◌++◌, length, take, Option, Some, None, ◌⊎◌, refl}
-use Rattle.std.proofs.Common.{sym, ◌∙◌, ap, subst, inl, inr, arith, ⊎_elim, append-nil}
+use Rattle.std.specs.Prelude.{◌≡◌, ◌≢◌, ℕ, Bool, true, false, cond, List, [], ◌∷◌, ◌++◌, Option, Some, None, refl}
+use Rattle.std.proofs.Common.{sym, ◌∙◌, ap, subst, inl, inr, arith, append-nil}
 use Rattle.std.specs.FinMap as fin
-use Rattle.std.specs.Ordering.{eq_by_cmp}
-use Rattle.slot_word.specs.declared.slots.Mark.TheVariants.{Live, Pending, Copied, Moved}
+use Rattle.slot_word.specs.declared.slots.Mark.TheVariants.{Live, Pending, Copied}
 use Rattle.kv_block.specs.Bytes.{key_cmp, key_eq}
 use Rattle.kv_block.specs.Packing.{Pair}
 use Rattle.kv_block.specs.declared.changes.Change.{Change}
 use Rattle.kv_block.proofs.Keys.{key_cmp_total, key_eq-is, key_eq-same, key_ties}
 use Rattle.map_model.specs.Contents.{Contents}
-use Rattle.map_model.specs.Machine.{map_after, map_at, changed}
+use Rattle.map_model.specs.Machine.{map_after, changed}
 use Rattle.map_model.proofs.Bridge.{map_after-push}
 use Rattle.node_words.specs.declared.geometry.Geometry.{Geometry}
 use Rattle.node_words.specs.Addresses.{slot_at}
@@ -17,21 +16,21 @@ use Rattle.node_words.specs.Roles.{SlotWord}
 use Rattle.verb_log.specs.declared.entry.Entry.{Entry}
 use Rattle.verb_log.specs.declared.kind.Kind.{Kind}
 use Rattle.verb_log.specs.declared.kind.Kind.TheVariants.{Store, Take, Place, Drop, Commit, Replace, Remove, Lock, Unlock, Link, Begin, Open, Copy, Uncopy, Flip, Settle, Clear, Finish, Close, Ripen, Name, Deepen}
-use Rattle.verb_log.specs.Decoded.{Body, Content, Empty, Full, NoSlot, content}
-use Rattle.verb_log.specs.Tables.{Past, Before, here, later, word_at, pair_at, role}
+use Rattle.verb_log.specs.Decoded.{Body, Empty, Full, content}
+use Rattle.verb_log.specs.Tables.{Past, Before, word_at, pair_at, role}
 use Rattle.verb_log.specs.Kinds.{kind}
 use Rattle.verb_log.specs.Changes.{pair_in, set_to, gone, changes_by, changes}
 use Rattle.race_laws.specs.Setting.{Setting}
 use Rattle.race_laws.specs.Standing.{IsTable, place_in}
 use Rattle.race_laws.specs.Rows.{IsPlace}
-use Rattle.race_laws.specs.Legal.{Meets, Legal}
+use Rattle.race_laws.specs.Legal.{Legal}
 use Rattle.race_laws.proofs.Step.{StepAt, step_of, SlotStep, place, drop, commit, replace, remove, copy, uncopy, flip, settle, clear}
 use Rattle.race_laws.proofs.Touch.{word_put, table_stays}
 use Rattle.race_laws.proofs.Sound.{Sound}
 use Rattle.race_laws.proofs.SoundStep.{sound, sounds, slot_place_of, standing_named, full_same, packs_kept, fresh_packs}
 use Rattle.race_laws.proofs.Opening.{opening_empty_slot}
 use Rattle.race_laws.proofs.Clear.{on_slot, same_slot}
-use Rattle.race_laws.proofs.Homes.{parent_of, Stands, as_live, as_copy, Home, Somewhere, Was, there, flipped, committed, was, home_table, one_home, SameHome}
+use Rattle.race_laws.proofs.Homes.{parent_of, Stands, as_live, as_copy, Home, Somewhere, Was, there, flipped, committed, was, one_home}
 use Rattle.race_laws.proofs.Commits.{alone}
 use Rattle.race_laws.proofs.Onward.{Onward, stays, renewed, flips, removed, onward}
 
@@ -204,9 +203,12 @@ module _ (s : Setting) (q : Past) (e : Entry) (l : Legal s (e ∷ q)) (ih : MapH
   -- the slot of an entry that sets the map is a home
   set_home : (t p : ℕ) (b : Body) (pr : Pair) → IsTable s.geometry q t → IsPlace s.geometry p → slot_at t p ≡ e.at → content e.new ≡ Full Live b → pair_at s.geometry (e ∷ q) b ≡ Some pr → Home s (e ∷ q) pr.key t p b pr
   set_home t p b pr tb pl at n pk = record {
-      table = table_stays s.geometry q e t t tb; place = pl; packs = pk; same_key = refl;
-      stands = as_live (ap content (word_put s.geometry q e (slot_at t p) at) ∙ n)
-    }
+    table = table_stays s.geometry q e t t tb;
+    place = pl;
+    packs = pk;
+    same_key = refl;
+    stands = as_live (ap content (word_put s.geometry q e (slot_at t p) at) ∙ n);
+  }
 
   home_as : (k1 k2 : List ℕ) (t p : ℕ) (b : Body) (pr : Pair) → k1 ≡ k2 → Home s (e ∷ q) k1 t p b pr → Home s (e ∷ q) k2 t p b pr
   home_as k1 k2 t p b pr same h = subst (λ v. Home s (e ∷ q) v t p b pr) same h
@@ -249,6 +251,7 @@ module _ (s : Setting) (q : Past) (e : Entry) (l : Legal s (e ∷ q)) (ih : MapH
     where
       new : Home s (e ∷ q) pc.key u r c pc
       new = set_home u r c pc tb pl at n pk
+
       by : (y : Bool) → key_eq key pc.key ≡ y → fin.get (map_of s.geometry (e ∷ q)) key ≡ Some pr.value
       by true y =
           let same = key_eq-is key pc.key y in
@@ -262,13 +265,16 @@ module _ (s : Setting) (q : Past) (e : Entry) (l : Legal s (e ∷ q)) (ih : MapH
     where
       gone_home : Home s q pc.key u r c pc
       gone_home = record { table = tb; place = pl; packs = pk; same_key = refl; stands = as_live (ap (λ v. content (word_at s.geometry q v)) at ∙ o) }
+
       no_live : (k : Kind) → content e.new ≡ Empty → slot_at t p ≡ e.at → ⊥
       no_live k n2 a2 = emptied t p b a2 n2 hm.stands
+
       not_commit : kind s.geometry q e ≢ Some Commit
       not_commit k = let z = on_live k in cc
         where
           on_live : kind s.geometry q e ≡ Some Commit → changes_by s.geometry q e (kind s.geometry q e) ≡ []
           on_live k2 = ap (changes_by s.geometry q e) k2 ∙ ap (λ c2. set_to (pair_in s.geometry q c2)) n
+
       by : (y : Bool) → key_eq key pc.key ≡ y → fin.get (map_of s.geometry (e ∷ q)) key ≡ Some pr.value
       by true y =
           let same = key_eq-is key pc.key y in
@@ -300,6 +306,7 @@ module _ (s : Setting) (q : Past) (e : Entry) (l : Legal s (e ∷ q)) (ih : MapH
     where
       gone_key : (t p : ℕ) (b : Body) (pr : Pair) → Home s q key t p b pr → content (word_at s.geometry q e.at) ≡ Full Live b → key ≡ pc.key
       gone_key t p b pr hm o2 = sym hm.same_key ∙ key_same (ap (pair_at s.geometry q) (full_same Live Live c b (sym o ∙ o2)) ∙ hm.packs) pk
+
       by : (y : Bool) → key_eq key pc.key ≡ y → Somewhere s (e ∷ q) key
       by true y =
           let same = key_eq-is key pc.key y in
@@ -315,6 +322,6 @@ none_empty h k = cc
 pub map_holds : (s : Setting) (q : Past) → Legal s q → MapHolds s q
 map_holds s [] l = record { held = λ key t p b pr hm. absurd (no_home s key t p b pr hm); found = λ key v g. absurd (none_empty (fin.get-empty key_cmp key) g) }
 map_holds s (e ∷ q) l = let ih = map_holds s q l.0 in record {
-    held = λ key t p b pr hm. held_step s q e l ih key t p b pr hm (effect s q e l);
-    found = λ key v g. found_step s q e l ih key v g (effect s q e l)
-  }
+  held = λ key t p b pr hm. held_step s q e l ih key t p b pr hm (effect s q e l);
+  found = λ key v g. found_step s q e l ih key v g (effect s q e l);
+}

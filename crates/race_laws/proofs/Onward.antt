@@ -1,31 +1,26 @@
 -- Where the home of a key goes by an entry, and which entries change the map.
-use Rattle.std.specs.Prelude.{◌≡◌, ◌≢◌, ℕ, zero, suc, ◌+◌, ◌-◌, ◌*◌, ◌%◌, ◌<◌, ◌≤◌, List, [], ◌∷◌, Option, Some, None, ◌⊎◌, refl}
-use Rattle.std.proofs.Common.{sym, ◌∙◌, ap, subst, inl, inr, arith, ⊎_elim}
+use Rattle.std.specs.Prelude.{◌≡◌, ◌≢◌, ℕ, List, ◌∷◌, Option, Some}
+use Rattle.std.proofs.Common.{sym, ◌∙◌, ap, subst, arith, ⊎_elim}
 use Rattle.slot_word.specs.declared.slots.Mark.{Mark}
-use Rattle.slot_word.specs.declared.slots.Mark.TheVariants.{Live, Pending, Copied, Moved}
+use Rattle.slot_word.specs.declared.slots.Mark.TheVariants.{Live, Copied, Moved}
 use Rattle.slot_word.specs.declared.births.Birth.{Birth}
 use Rattle.kv_block.specs.Packing.{Pair}
-use Rattle.node_words.specs.declared.geometry.Geometry.{Geometry}
 use Rattle.node_words.specs.Addresses.{slot_at}
-use Rattle.node_words.specs.Roles.{SlotWord}
 use Rattle.verb_log.specs.declared.entry.Entry.{Entry}
-use Rattle.verb_log.specs.declared.kind.Kind.{Kind}
 use Rattle.verb_log.specs.declared.kind.Kind.TheVariants.{Replace, Remove, Flip}
-use Rattle.verb_log.specs.Decoded.{Body, Content, Empty, Full, NoSlot, content, Header, PlainAt, SplittingAt, FillingAt, NoHeader}
-use Rattle.verb_log.specs.Tables.{Past, Before, here, later, word_at, pair_at, role}
+use Rattle.verb_log.specs.Decoded.{Body, Empty, Full, content}
+use Rattle.verb_log.specs.Tables.{Past, Before, word_at, pair_at, role}
 use Rattle.verb_log.specs.Kinds.{kind}
 use Rattle.race_laws.specs.Setting.{Setting}
-use Rattle.race_laws.specs.Standing.{IsTable, header_in, birth_in, child_in, place_in, depth, Word}
+use Rattle.race_laws.specs.Standing.{header_in, child_in, place_in, depth}
 use Rattle.race_laws.specs.Chains.{Holder, live, copied}
-use Rattle.race_laws.specs.Splits.{IsChild}
-use Rattle.race_laws.specs.Rows.{IsPlace, ClearRow, FlipRow}
-use Rattle.race_laws.specs.Legal.{Meets, Legal}
+use Rattle.race_laws.specs.Rows.{FlipRow}
+use Rattle.race_laws.specs.Legal.{Legal}
 use Rattle.race_laws.proofs.Step.{SlotStep, place, drop, commit, replace, remove, copy, uncopy, flip, settle, clear}
-use Rattle.race_laws.proofs.Touch.{same_or_not, word_put, word_kept, table_stays}
-use Rattle.race_laws.proofs.Sound.{Sound, Named, table_some}
-use Rattle.race_laws.proofs.SoundStep.{sound, sounds, table_before, slot_is, slot_place_of, standing_named, full_same, packs_kept, fresh_packs}
+use Rattle.race_laws.proofs.Touch.{word_put, word_kept, table_stays}
+use Rattle.race_laws.proofs.Sound.{Sound}
+use Rattle.race_laws.proofs.SoundStep.{sound, sounds, slot_is, standing_named, full_same, packs_kept, fresh_packs}
 use Rattle.race_laws.proofs.Frames.{birth_kept, slot_cases}
-use Rattle.race_laws.proofs.Splits.{Kin, Under, Splits}
 use Rattle.race_laws.proofs.Opening.{splits}
 use Rattle.race_laws.proofs.Homes.{parent_of, Stands, as_live, as_copy, Home, parent_table}
 
@@ -91,10 +86,12 @@ module _ (s : Setting) (q : Past) (e : Entry) (l : Legal s (e ∷ q)) (key : Lis
       let on = ap (role s.geometry q) (sym z) ∙ slot_is s.geometry q so t p hm.table hm.place in
       let key2 = row.same_key ∙ holder_key c row.body row.pair st row.holder in
       renewed row.new_body row.new_pair i z row.word (record {
-          table = table_stays s.geometry q e t t hm.table; place = hm.place;
-          packs = fresh_packs s q e l.0 l.1 so ss t p e.client row.new_body row.new_pair on row.fresh;
-          same_key = key2; stands = as_live (now z ∙ row.word)
-        })
+        table = table_stays s.geometry q e t t hm.table;
+        place = hm.place;
+        packs = fresh_packs s q e l.0 l.1 so ss t p e.client row.new_body row.new_pair on row.fresh;
+        same_key = key2;
+        stands = as_live (now z ∙ row.word);
+      })
   live_on st z (remove c i o n row) = removed i z (subst (λ x. content (word_at s.geometry q e.at) ≡ Full Live x) (full_same Live Live c b (sym (old z Live c o) ∙ st)) o)
   live_on st z (copy c i o n row) = absurd (⊎_elim (λ (w : content (word_at s.geometry q e.at) ≡ Empty). let v = ap (λ v. content (word_at s.geometry q v)) z in cc) (λ w. let v = ap (λ v. content (word_at s.geometry q v)) z in let u = w.1 in cc) o)
   live_on st z (uncopy c i o n row) = let w = ap (λ v. content (word_at s.geometry q v)) z in absurd (cc)
@@ -141,9 +138,9 @@ module _ (s : Setting) (q : Past) (e : Entry) (l : Legal s (e ∷ q)) (key : Lis
   copy_stays st mo cp =
       let par = parent_table s q l.0 t p b hm.table hm.place st in
       ⊎_elim
-        (λ (x : place_in s.geometry (e ∷ q) (parent_of s.geometry q t) p ≡ place_in s.geometry q (parent_of s.geometry q t) p).
-          stays (home_now (as_copy cp (ap (λ v. place_in s.geometry (e ∷ q) v p) parent_now ∙ x ∙ mo)) Copied st))
-        (λ x. absurd (not_cleared st mo x.1 x.2)) (slot_cases s q e l.1 so (parent_of s.geometry q t) par p hm.place)
+      (λ (x : place_in s.geometry (e ∷ q) (parent_of s.geometry q t) p ≡ place_in s.geometry q (parent_of s.geometry q t) p).
+      stays (home_now (as_copy cp (ap (λ v. place_in s.geometry (e ∷ q) v p) parent_now ∙ x ∙ mo)) Copied st))
+      (λ x. absurd (not_cleared st mo x.1 x.2)) (slot_cases s q e l.1 so (parent_of s.geometry q t) par p hm.place)
 
   onward_stands : Stands s.geometry q t p b → Onward s q e key t p b pr
   onward_stands (as_live st) = ⊎_elim (λ (x : place_in s.geometry (e ∷ q) t p ≡ place_in s.geometry q t p). stays (home_now (as_live (x ∙ st)) Live st)) (λ x. live_on st x.1 x.2)

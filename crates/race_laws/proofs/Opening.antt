@@ -1,29 +1,28 @@
 -- The empty log: the words of the first tables; and what is kept of tables at every position of a legal log.
-use Rattle.std.specs.Prelude.{◌≡◌, ◌≢◌, ℕ, zero, suc, ◌+◌, ◌-◌, ◌*◌, ◌/◌, ◌%◌, ◌^◌, ◌<◌, ◌≤◌, Bool, true, false, List, [], ◌∷◌, Option, Some, None, ◌⊎◌, refl}
-use Rattle.std.proofs.Common.{sym, ◌∙◌, ap, subst, inl, inr, arith, ⊎_elim}
-use Rattle.slot_word.specs.declared.heads.Head.{Head}
+use Rattle.std.specs.Prelude.{◌≡◌, ℕ, ◌*◌, ◌^◌, ◌<◌, ◌≤◌, [], ◌∷◌}
+use Rattle.std.proofs.Common.{sym, ◌∙◌, ap, subst, inl, arith}
 use Rattle.slot_word.specs.declared.heads.State.TheVariants.{Plain}
 use Rattle.slot_word.specs.declared.births.Birth.{Birth}
-use Rattle.slot_word.specs.Heads.{head_of, head_word, IsHead}
-use Rattle.slot_word.specs.Births.{birth_of, birth_word, IsBirth}
+use Rattle.slot_word.specs.Heads.{head_of, head_word}
+use Rattle.slot_word.specs.Births.{birth_of, birth_word}
 use Rattle.slot_word.proofs.HeadLaws.{head_of-head_word}
 use Rattle.slot_word.proofs.BirthLaws.{birth_of-birth_word}
 use Rattle.node_words.specs.declared.geometry.Geometry.{Geometry}
-use Rattle.node_words.specs.Addresses.{table_words, first_table, birth_at, header_at, child_at, slot_at, bucket_header_at}
+use Rattle.node_words.specs.Addresses.{first_table}
 use Rattle.node_words.specs.Opening.{plain_header, first_birth}
 use Rattle.node_words.proofs.Sizes.{few_first}
 use Rattle.node_words.proofs.FirstTables.{IsInFirst, first_in}
-use Rattle.node_words.proofs.OpeningWords.{opening_birth, opening_header, opening_child, opening_bucket, opening_slot}
-use Rattle.verb_log.specs.declared.entry.Entry.{Entry}
-use Rattle.verb_log.specs.Decoded.{Body, Content, Empty, Full, NoSlot, content, Header, PlainAt, SplittingAt, FillingAt, NoHeader, header, header_of, birth, birth_or_none}
-use Rattle.verb_log.specs.Tables.{Past, Before, here, later, word_at, table_of}
+use Rattle.node_words.proofs.OpeningWords.{opening_birth, opening_header, opening_lock, opening_child, opening_bucket, opening_slot}
+use Rattle.verb_log.specs.Decoded.{Empty, content, PlainAt, header, header_of, birth, birth_or_none}
+use Rattle.verb_log.specs.Tables.{Past, Before}
 use Rattle.race_laws.specs.Setting.{Setting}
-use Rattle.race_laws.specs.Standing.{IsTable, header_in, birth_in, child_in, bucket_in, place_in, depth, IsFilling, IsGone}
+use Rattle.race_laws.specs.Standing.{IsTable, header_in, birth_in, lock_in, child_in, bucket_in, place_in, depth, IsPlain, IsGone}
+use Rattle.race_laws.specs.Splits.{IsQuiet}
 use Rattle.race_laws.specs.Rows.{IsPlace}
-use Rattle.race_laws.specs.Legal.{Meets, Legal}
+use Rattle.race_laws.specs.Legal.{Legal}
 use Rattle.race_laws.proofs.SoundStep.{content-0}
 use Rattle.race_laws.proofs.Positions.{legal_before}
-use Rattle.race_laws.proofs.Splits.{IsFirst, Kin, Splits}
+use Rattle.race_laws.proofs.Splits.{IsFirst, Splits}
 use Rattle.race_laws.proofs.SplitsStep.{splits_step}
 
 -- the header word of a first table
@@ -105,3 +104,19 @@ opening_empty_slot g t p h k = opening_slot_empty g t h p k
 -- the depth of a first table is its birth depth at first
 pub first_depth_only : (s : Setting) (t : ℕ) → IsTable s.geometry [] t → depth (header_in s.geometry [] t) ≡ (birth_in s.geometry [] t).depth
 first_depth_only s t h = ap depth (opening_head s.geometry t h) ∙ sym (ap (λ (x : Birth). x.depth) (opening_birth_is s.geometry t h))
+
+-- no lock of the opening is held, and no table is split
+pub opening_lock_free : (g : Geometry) (t : ℕ) → IsTable g [] t → lock_in g [] t ≡ 0
+opening_lock_free g t h = at_first g t h (lock_in g []) ∙ opening_lock g (where_it_is g t h).index (where_it_is g t h).below
+
+pub opening_quiet : (g : Geometry) (t : ℕ) → IsTable g [] t → IsQuiet g [] t
+opening_quiet g t h =
+    let hd = opening_head g t h in
+    let d = ap depth hd in
+    let b = ap (λ (x : Birth). x.depth) (opening_birth_is g t h) in
+    record {
+      plain = subst IsPlain (sym hd) tt;
+      buckets = λ m k. opening_head_bucket g t h m k ∙ sym hd;
+      no_child = λ k. opening_no_child g t h (depth (header_in g [] t)) k;
+      ripe = λ i k low f. absurd (omega arith);
+    }

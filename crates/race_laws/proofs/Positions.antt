@@ -1,5 +1,5 @@
 -- Positions of a legal log.
-use Rattle.std.specs.Prelude.{◌≡◌, ℕ, List, [], ◌∷◌, ◌⊎◌}
+use Rattle.std.specs.Prelude.{◌∷◌, ◌⊎◌}
 use Rattle.std.proofs.Common.{inl, inr}
 use Rattle.verb_log.specs.declared.entry.Entry.{Entry}
 use Rattle.verb_log.specs.Tables.{Past, Before, here, later}

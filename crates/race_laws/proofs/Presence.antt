@@ -1,7 +1,7 @@
 -- A copy in the child, after its place of the parent was moved of its block, holds the key.
-use Rattle.std.specs.Prelude.{◌≡◌, ◌≢◌, ℕ, zero, suc, ◌+◌, ◌<◌, ◌≤◌, List, [], ◌∷◌, length, slice_index_or, Contains, Option, Some, None, ◌⊎◌, refl}
+use Rattle.std.specs.Prelude.{◌≡◌, ℕ, suc, ◌<◌, ◌≤◌, List, [], ◌∷◌, Contains, Option, Some, ◌⊎◌, refl}
 use Rattle.std.proofs.Common.{sym, ◌∙◌, ap, subst, inl, inr, arith, ⊎_elim}
-use Rattle.slot_word.specs.declared.slots.Mark.TheVariants.{Live, Pending, Copied, Moved}
+use Rattle.slot_word.specs.declared.slots.Mark.TheVariants.{Live, Copied, Moved}
 use Rattle.slot_word.specs.declared.births.Birth.{Birth}
 use Rattle.kv_block.specs.Packing.{Pair}
 use Rattle.bucket_group.specs.ExitLevel.{exit_level}
@@ -9,21 +9,20 @@ use Rattle.bucket_group.proofs.CandidateLaws.{candidates_slots}
 use Rattle.node_words.specs.Addresses.{slot_at}
 use Rattle.node_words.proofs.Sizes.{some_groups}
 use Rattle.verb_log.specs.declared.entry.Entry.{Entry}
-use Rattle.verb_log.specs.Decoded.{Body, Content, Empty, Full, NoSlot, content, Header, SplittingAt}
+use Rattle.verb_log.specs.Decoded.{Body, Empty, Full, content}
 use Rattle.verb_log.specs.Tables.{Past, Before, here, later, word_at, pair_at}
 use Rattle.race_laws.specs.Setting.{Setting, hash, places}
-use Rattle.race_laws.specs.Standing.{IsTable, header_in, birth_in, child_in, place_in, depth, Exits, Word, IsIn}
+use Rattle.race_laws.specs.Standing.{IsTable, header_in, birth_in, child_in, place_in, depth, Exits, IsIn}
 use Rattle.race_laws.specs.Chains.{Holder, live, copied}
 use Rattle.race_laws.specs.Splits.{IsOpen}
 use Rattle.race_laws.specs.Rows.{IsPlace, CopyRow, ClearRow}
-use Rattle.race_laws.specs.Legal.{Meets, Legal}
-use Rattle.race_laws.proofs.Positions.{legal_before, before_trans}
+use Rattle.race_laws.specs.Legal.{Legal}
+use Rattle.race_laws.proofs.Positions.{legal_before}
 use Rattle.race_laws.proofs.Step.{SlotStep, place, drop, commit, replace, remove, copy, uncopy, flip, settle, clear}
-use Rattle.race_laws.proofs.Touch.{word_put}
 use Rattle.race_laws.proofs.Sound.{Sound}
 use Rattle.race_laws.proofs.SoundStep.{sound, table_before, standing_named, full_same, packs_later}
 use Rattle.race_laws.proofs.Frames.{birth_kept, slot_cases}
-use Rattle.race_laws.proofs.Splits.{Kin, Under, Splits, new_table, new_slot}
+use Rattle.race_laws.proofs.Splits.{new_table, new_slot}
 use Rattle.race_laws.proofs.Opening.{splits}
 use Rattle.race_laws.proofs.Clear.{exits_later}
 use Rattle.race_laws.proofs.Chain.{chain_table}
@@ -76,16 +75,16 @@ module _ (s : Setting) (at : Past) (la : Legal s at) (t p : ℕ) (b : Body) (ta 
     cleared mo a row n h pa w =
         let hz = table_back h w in
         ⊎_elim
-          (λ (x : place_in s.geometry (e ∷ z) c p ≡ place_in s.geometry z c p).
-            let st = sym x ∙ w in
-            let pz = parent_back hz pa in
-            let u = (splits s z l.0).copies c p b hz k st in
-            let level = ap depth (ap (header_in s.geometry z) (sym pz) ∙ u.splits) in
-            let child : row.child ≡ c = sym row.is_child.linked ∙ ap (child_in s.geometry z t) level ∙ ap (λ v. child_in s.geometry z v u.kin.level) (sym pz) ∙ u.kin.is_child in
-            let same = full_same Moved Moved row.body b (sym row.moved ∙ mo) in
-            row.settled (ap (λ v. place_in s.geometry z v p) child ∙ st ∙ ap (Full Copied) (sym same)))
-          (λ x. let y = x.0 in cc)
-          (slot_cases s z e l.1 so c hz p k)
+        (λ (x : place_in s.geometry (e ∷ z) c p ≡ place_in s.geometry z c p).
+        let st = sym x ∙ w in
+        let pz = parent_back hz pa in
+        let u = (splits s z l.0).copies c p b hz k st in
+        let level = ap depth (ap (header_in s.geometry z) (sym pz) ∙ u.splits) in
+        let child : row.child ≡ c = sym row.is_child.linked ∙ ap (child_in s.geometry z t) level ∙ ap (λ v. child_in s.geometry z v u.kin.level) (sym pz) ∙ u.kin.is_child in
+        let same = full_same Moved Moved row.body b (sym row.moved ∙ mo) in
+        row.settled (ap (λ v. place_in s.geometry z v p) child ∙ st ∙ ap (Full Copied) (sym same)))
+        (λ x. let y = x.0 in cc)
+        (slot_cases s z e l.1 so c hz p k)
 
     moved_on : place_in s.geometry z t p ≡ Full Moved b → slot_at t p ≡ e.at → SlotStep s z e t p → Free (e ∷ z)
     moved_on mo a (place d i o n row) = let w = ap (λ v. content (word_at s.geometry z v)) a in absurd (cc)
@@ -120,8 +119,10 @@ module _ (s : Setting) (at : Past) (la : Legal s at) (t p : ℕ) (b : Body) (ta 
       where
         keys : {o : Option Pair} {x y : Pair} → o ≡ Some x → o ≡ Some y → x.key ≡ y.key
         keys h k = cc
+
         levels : {o : Option ℕ} {i j : ℕ} → o ≡ Some i → o ≡ Some j → i ≡ j
         levels h k = cc
+
         at_most : (n m : ℕ) → n ≡ m → n ≤ m
         at_most n m h = omega arith
 

@@ -1,12 +1,12 @@
 -- Where a node's words may be taken from.
-use Rattle.std.specs.Prelude.{◌≡◌, ◌≢◌, ℕ, suc, ◌+◌, ◌-◌, ◌*◌, ◌/◌, ◌%◌, ◌^◌, ◌<◌, ◌≤◌, true, cond, ◌==◌, Option, Some, None, ◌⊎◌, refl}
-use Rattle.std.proofs.Common.{sym, ◌∙◌, ap, subst, inl, inr, arith, ⊎_elim}
+use Rattle.std.specs.Prelude.{◌≡◌, ◌≢◌, ℕ, ◌+◌, ◌-◌, ◌*◌, ◌%◌, ◌<◌, ◌≤◌, None}
+use Rattle.std.proofs.Common.{sym, ◌∙◌, ap, arith, ⊎_elim}
 use Rattle.std.proofs.lemmas.Bool.Decides.{nat_tests}
 use Rattle.node_words.specs.declared.geometry.Geometry.{Geometry}
 use Rattle.node_words.specs.Addresses.{node_size, node_of, node_at, first_free}
 use Rattle.node_words.specs.Roles.{NextWord, HeapWord, role_in, first_table_of}
 use Rattle.node_words.specs.Opening.{role_word}
-use Rattle.node_words.proofs.Sizes.{first_free_fits, first_free_directory, first_free_low, node_from, node_to, node_at_is, node_at_high, node_of-div, node_is, node_at-0, node_size_range}
+use Rattle.node_words.proofs.Sizes.{first_free_fits, first_free_directory, first_free_low, node_at_is, node_at_high, node_of-div, node_is, node_at-0, node_size_range}
 use Rattle.node_words.proofs.FirstTables.{first_none_high}
 use Rattle.node_words.proofs.RoleLemmas.{heap_role}
 use Rattle.race_laws.proofs.Touch.{same_or_not}

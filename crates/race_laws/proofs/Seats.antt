@@ -1,35 +1,31 @@
 -- Where the words of slots stand: at a candidate of their key, in a table on its chain that the key has not left.
-use Rattle.std.specs.Prelude.{◌≡◌, ◌≢◌, ℕ, zero, suc, ◌+◌, ◌-◌, ◌*◌, ◌%◌, ◌<◌, ◌≤◌, List, [], ◌∷◌, Option, Some, None, ◌⊎◌, refl}
-use Rattle.std.proofs.Common.{sym, ◌∙◌, ap, subst, inl, inr, arith, ⊎_elim}
+use Rattle.std.specs.Prelude.{◌≡◌, ◌≢◌, ℕ, ◌+◌, ◌<◌, ◌≤◌, List, [], ◌∷◌, Option, Some, ◌⊎◌}
+use Rattle.std.proofs.Common.{sym, ◌∙◌, ap, subst, arith, ⊎_elim}
 use Rattle.slot_word.specs.declared.slots.Mark.{Mark}
 use Rattle.slot_word.specs.declared.slots.Mark.TheVariants.{Live, Pending, Copied, Moved}
 use Rattle.slot_word.specs.declared.births.Birth.{Birth}
 use Rattle.kv_block.specs.Packing.{Pair}
-use Rattle.bucket_group.specs.ExitLevel.{exit_level}
-use Rattle.bucket_group.proofs.ExitLaws.{exit-some, exit-below}
-use Rattle.node_words.specs.declared.geometry.Geometry.{Geometry}
+use Rattle.bucket_group.proofs.ExitLaws.{exit-some}
 use Rattle.node_words.specs.Addresses.{header_at, slot_at}
 use Rattle.node_words.specs.Roles.{SlotWord}
 use Rattle.verb_log.specs.declared.entry.Entry.{Entry}
-use Rattle.verb_log.specs.Decoded.{Body, Content, Empty, Full, NoSlot, content, Header, PlainAt, SplittingAt, FillingAt, NoHeader, header}
+use Rattle.verb_log.specs.Decoded.{Body, Full, content, SplittingAt, header}
 use Rattle.verb_log.specs.Tables.{Past, Before, here, later, word_at, pair_at, role}
 use Rattle.race_laws.specs.Setting.{Setting, hash, places}
-use Rattle.race_laws.specs.Standing.{IsTable, header_in, birth_in, child_in, place_in, depth, IsFilling, IsGone, Exits, Word, IsIn}
+use Rattle.race_laws.specs.Standing.{IsTable, header_in, birth_in, child_in, place_in, depth, IsGone, Exits, Word, IsIn}
 use Rattle.race_laws.specs.Chains.{OnChain, goes_on}
 use Rattle.race_laws.specs.Splits.{WasClear}
 use Rattle.race_laws.specs.Rows.{IsPlace, IsFresh, CopyRow}
-use Rattle.race_laws.specs.Legal.{Meets, Legal}
-use Rattle.race_laws.proofs.Positions.{legal_before, before_trans}
+use Rattle.race_laws.specs.Legal.{Legal}
 use Rattle.race_laws.proofs.Step.{SlotStep, place, drop, commit, replace, remove, copy, uncopy, flip, settle, clear, HeaderStep, open_it, finish, ripen}
-use Rattle.race_laws.proofs.Touch.{same_or_not, table_stays}
-use Rattle.race_laws.proofs.Sound.{Sound, Named, table_some}
+use Rattle.race_laws.proofs.Touch.{same_or_not}
+use Rattle.race_laws.proofs.Sound.{Sound, table_some}
 use Rattle.race_laws.proofs.SoundStep.{sound, sounds, table_before, slot_is, standing_named, full_same, named_at, packs_kept, packs_later, fresh_packs}
-use Rattle.race_laws.proofs.Frames.{birth_kept, birth_before, header_cases, slot_cases}
-use Rattle.race_laws.proofs.Finality.{GoesOn, header_next}
-use Rattle.race_laws.proofs.Splits.{IsFirst, Kin, Under, Splits, Linked, new_table, new_birth, new_header, new_slot}
-use Rattle.race_laws.proofs.Opening.{splits, splits_at, opening_empty_slot, first_depth_only}
-use Rattle.race_laws.proofs.Clear.{clear_on, exits_before, exits_later}
-use Rattle.race_laws.proofs.Chain.{born_at, born_before, chain_table, chain_before}
+use Rattle.race_laws.proofs.Frames.{birth_kept, header_cases, slot_cases}
+use Rattle.race_laws.proofs.Splits.{IsFirst, Kin, Splits, new_table, new_birth, new_header, new_slot}
+use Rattle.race_laws.proofs.Opening.{splits, opening_empty_slot, first_depth_only}
+use Rattle.race_laws.proofs.Clear.{clear_on, exits_later}
+use Rattle.race_laws.proofs.Chain.{chain_before}
 
 -- what was clear stays so
 pub was_clear_later : (s : Setting) {q : Past} (e : Entry) (t i p : ℕ) → WasClear s q t i p → WasClear s (e ∷ q) t i p

@@ -1,26 +1,19 @@
 -- What every position of a legal log keeps of regions: what is taken, published and linked, and that a named block keeps
 -- its words.
-use Rattle.std.specs.Prelude.{◌≡◌, ◌≢◌, ℕ, zero, suc, ◌+◌, ◌-◌, ◌*◌, ◌<◌, ◌≤◌, Bool, true, false, cond, not, ◌&&◌, ◌||◌, nat_le, nat_lt, ◌==◌, List, [], ◌∷◌, Option, Some, None, ◌⊎◌, refl}
-use Rattle.std.proofs.Common.{sym, ◌∙◌, ap, subst, inl, inr, arith, ⊎_elim}
-use Rattle.std.proofs.lemmas.Bool.Decides.{nat_tests}
+use Rattle.std.specs.Prelude.{◌≡◌, ◌≢◌, ℕ, ◌+◌, ◌<◌, ◌≤◌, true, false, Option, Some, None, ◌⊎◌, refl}
+use Rattle.std.proofs.Common.{◌∙◌, ap, arith, ⊎_elim}
 use Rattle.slot_word.specs.declared.slots.Mark.{Mark}
-use Rattle.slot_word.specs.declared.slots.Mark.TheVariants.{Live, Pending, Copied, Moved}
-use Rattle.kv_block.specs.Packing.{Pair, unpacked}
+use Rattle.kv_block.specs.Packing.{Pair}
 use Rattle.node_words.specs.declared.geometry.Geometry.{Geometry}
-use Rattle.node_words.specs.Addresses.{node_size, node_of, node_at, table_words, first_free}
-use Rattle.node_words.specs.Roles.{Role, NextWord, DepthWord, DirectoryWord, BirthWord, HeaderWord, LockWord, ReservedWord, ChildWord, BucketWord, SlotWord, HeapWord, role_in, first_table_of}
+use Rattle.node_words.specs.Addresses.{node_size, node_of, node_at, table_words}
+use Rattle.node_words.specs.Roles.{NextWord, SlotWord, HeapWord, role_in, first_table_of}
 use Rattle.node_words.proofs.Sizes.{node_is, node_size_range, node_at-0}
-use Rattle.node_words.proofs.FirstTables.{IsInFirst, first_in, first_is}
-use Rattle.node_words.proofs.RoleLemmas.{next_role, next_below}
+use Rattle.node_words.proofs.FirstTables.{IsInFirst, first_is}
+use Rattle.node_words.proofs.RoleLemmas.{next_role}
 use Rattle.node_words.proofs.OpeningWords.{next_apart}
-use Rattle.verb_log.specs.declared.entry.Entry.{Entry}
-use Rattle.verb_log.specs.Decoded.{Body, Content, Empty, Full, NoSlot, content}
-use Rattle.verb_log.specs.Tables.{Past, Before, here, later, word_at, words_at, pair_at, is_among, table_of, role, or_else, links, linked_by, is_taken, is_taken_by, moves_across, is_published, publishes, covers}
-use Rattle.race_laws.specs.Setting.{Setting}
-use Rattle.race_laws.specs.Legal.{Meets, Legal}
-use Rattle.race_laws.proofs.Step.{StepAt, step_of}
-use Rattle.race_laws.proofs.Touch.{same_or_not, word_kept, word_put, touched, table_stays, taken_stays, published_stays, or_either, and_both}
-use Rattle.race_laws.proofs.Regions.{base, base_from, base_to, base_low, node_end, heap_none, heap_word, node_between}
+use Rattle.verb_log.specs.Decoded.{Body, Full, content}
+use Rattle.verb_log.specs.Tables.{Past, word_at, pair_at, table_of, role, is_taken, is_published}
+use Rattle.race_laws.proofs.Regions.{base, base_from, heap_none, heap_word}
 
 -- a taken word lies between its node's base and its node's next word
 pub record IsTakenAt (g : Geometry) (past : Past) (a : ℕ) : Type 0 where

@@ -1,29 +1,28 @@
 -- Each legal entry keeps the regions sound.
-use Rattle.std.specs.Prelude.{◌≡◌, ◌≢◌, ℕ, zero, suc, ◌+◌, ◌-◌, ◌*◌, ◌%◌, ◌<◌, ◌≤◌, Bool, true, false, cond, not, ◌&&◌, ◌||◌, nat_le, nat_lt, ◌==◌, List, [], ◌∷◌, Option, Some, None, ◌⊎◌, refl}
+use Rattle.std.specs.Prelude.{◌≡◌, ◌≢◌, ℕ, zero, suc, ◌+◌, ◌-◌, ◌*◌, ◌<◌, ◌≤◌, Bool, true, false, cond, not, ◌&&◌, ◌||◌, nat_le, nat_lt, ◌==◌, List, [], ◌∷◌, Option, Some, None, ◌⊎◌, refl}
 use Rattle.std.proofs.Common.{sym, ◌∙◌, ap, subst, inl, inr, arith, ⊎_elim}
 use Rattle.std.proofs.lemmas.Bool.Decides.{nat_tests}
 use Rattle.slot_word.specs.declared.slots.Mark.{Mark}
 use Rattle.slot_word.specs.declared.slots.Mark.TheVariants.{Live, Pending, Copied, Moved}
 use Rattle.kv_block.specs.Packing.{Pair, unpacked}
 use Rattle.node_words.specs.declared.geometry.Geometry.{Geometry}
-use Rattle.node_words.specs.Addresses.{node_size, node_of, node_at, table_words, first_free, slot_at}
+use Rattle.node_words.specs.Addresses.{node_size, node_of, node_at, table_words, slot_at}
 use Rattle.node_words.specs.Roles.{Role, NextWord, DepthWord, DirectoryWord, BirthWord, HeaderWord, LockWord, ReservedWord, ChildWord, BucketWord, SlotWord, HeapWord, role_in, offset_role, first_table_of}
 use Rattle.node_words.proofs.FirstTables.{IsInFirst, first_in, first_is, first_same}
 use Rattle.node_words.specs.Opening.{opening_word}
 use Rattle.node_words.proofs.OpeningWords.{opening_by_role, next_apart}
-use Rattle.node_words.proofs.RoleLemmas.{next_role, next_below, child_in, slot_in, slot_below, slot_role}
+use Rattle.node_words.proofs.RoleLemmas.{next_role, next_below, child_in, slot_in, slot_role}
 use Rattle.verb_log.specs.declared.entry.Entry.{Entry}
-use Rattle.verb_log.specs.Decoded.{Body, Content, Empty, Full, NoSlot, content}
-use Rattle.verb_log.specs.Tables.{Past, Before, here, later, word_at, words_at, pair_at, is_among, table_of, role, or_else, links, linked_by, is_taken, is_taken_by, moves_across, is_published, publishes, covers}
+use Rattle.verb_log.specs.Decoded.{Body, Content, Empty, Full, content}
+use Rattle.verb_log.specs.Tables.{Past, Before, here, later, word_at, words_at, pair_at, is_among, table_of, role, or_else, links, linked_by, is_taken, moves_across, is_published, publishes, covers}
 use Rattle.race_laws.specs.Setting.{Setting}
 use Rattle.race_laws.specs.Standing.{IsTable, place_in}
 use Rattle.race_laws.specs.Rows.{IsPlace, IsFresh, IsBlank}
 use Rattle.race_laws.specs.Legal.{Meets, Legal}
-use Rattle.race_laws.proofs.Positions.{before_trans}
 use Rattle.race_laws.proofs.Step.{StepAt, step_of, SlotStep, place, drop, commit, replace, remove, copy, uncopy, flip, settle, clear}
-use Rattle.race_laws.proofs.Touch.{role_stays, same_or_not, word_kept, word_put, touched, table_stays, taken_stays, published_stays, or_either, and_both, taken_by_someone}
-use Rattle.race_laws.proofs.Regions.{base, base_from, base_to, base_low, node_end, heap_none, heap_word, node_between}
-use Rattle.race_laws.proofs.Sound.{IsTakenAt, Named, Sound, table_none, next_table, next_is, taken_heap, fresh_none, named_heap}
+use Rattle.race_laws.proofs.Touch.{role_stays, word_kept, word_put, touched, table_stays, taken_stays, published_stays, or_either, and_both, taken_by_someone}
+use Rattle.race_laws.proofs.Regions.{base, base_to, node_end, node_between}
+use Rattle.race_laws.proofs.Sound.{IsTakenAt, Named, Sound, next_is, taken_heap, fresh_none, named_heap}
 
 -- what was taken or published at a position is so later
 pub published_before : (g : Geometry) {p q : Past} → Before p q → (a : ℕ) → is_published g p a ≡ true → is_published g q a ≡ true

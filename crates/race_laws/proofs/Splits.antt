@@ -1,28 +1,25 @@
 -- What every position of a legal log keeps of tables, their parents and their children.
-use Rattle.std.specs.Prelude.{◌≡◌, ◌≢◌, ℕ, zero, suc, ◌+◌, ◌-◌, ◌*◌, ◌/◌, ◌%◌, ◌^◌, ◌<◌, ◌≤◌, Bool, true, false, not, ◌&&◌, ◌==◌, List, [], ◌∷◌, Option, Some, None, ◌⊎◌, refl}
+use Rattle.std.specs.Prelude.{◌≡◌, ◌≢◌, ℕ, ◌+◌, ◌-◌, ◌*◌, ◌/◌, ◌%◌, ◌^◌, ◌<◌, ◌≤◌, true, not, ◌&&◌, ◌==◌, ◌∷◌, None, ◌⊎◌, refl}
 use Rattle.std.proofs.Common.{sym, ◌∙◌, ap, subst, inl, inr, arith, ⊎_elim}
 use Rattle.std.proofs.lemmas.Bool.Decides.{nat_tests}
-use Rattle.slot_word.specs.declared.slots.Mark.{Mark}
-use Rattle.slot_word.specs.declared.slots.Mark.TheVariants.{Live, Pending, Copied, Moved}
-use Rattle.slot_word.specs.declared.births.Birth.{Birth}
+use Rattle.slot_word.specs.declared.slots.Mark.TheVariants.{Copied}
 use Rattle.node_words.specs.declared.geometry.Geometry.{Geometry}
-use Rattle.node_words.specs.Addresses.{node_at, table_words, first_free, first_table, birth_at, header_at, lock_at, child_at, slot_at, bucket_header_at}
-use Rattle.node_words.specs.Roles.{Role, NextWord, DepthWord, DirectoryWord, BirthWord, HeaderWord, LockWord, ReservedWord, ChildWord, BucketWord, SlotWord, HeapWord, role_in, offset_role}
-use Rattle.node_words.proofs.FirstTables.{IsInFirst, first_in, first_is, first_same}
+use Rattle.node_words.specs.Addresses.{table_words, first_table, child_at, slot_at, bucket_header_at}
+use Rattle.node_words.specs.Roles.{ChildWord, SlotWord, offset_role}
+use Rattle.node_words.proofs.FirstTables.{IsInFirst}
 use Rattle.node_words.proofs.RoleLemmas.{child_role, slot_role, child_in as child_address}
 use Rattle.verb_log.specs.declared.entry.Entry.{Entry}
-use Rattle.verb_log.specs.Decoded.{Body, Content, Empty, Full, NoSlot, content, Header, PlainAt, SplittingAt, FillingAt, NoHeader, header, birth}
-use Rattle.verb_log.specs.Tables.{Past, Before, here, later, word_at, table_of, role, links}
+use Rattle.verb_log.specs.Decoded.{Body, Empty, Full, content, SplittingAt, FillingAt, NoHeader, header, birth}
+use Rattle.verb_log.specs.Tables.{Past, word_at, table_of, role, links}
 use Rattle.race_laws.specs.Setting.{Setting}
 use Rattle.race_laws.specs.Standing.{IsTable, header_in, birth_in, child_in, bucket_in, place_in, depth, IsFilling, IsGone}
-use Rattle.race_laws.specs.Rows.{IsPlace, IsBlank, IsNewborn, LinkRow}
+use Rattle.race_laws.specs.Rows.{IsPlace, IsBlank, LinkRow}
 use Rattle.race_laws.specs.Legal.{Meets, Legal}
-use Rattle.race_laws.proofs.Step.{StepAt, step_of, SlotStep, place, drop, commit, replace, remove, copy, uncopy, flip, settle, clear, HeaderStep, open_it, finish, ripen, BucketStep, begin, close, ripen_bucket}
-use Rattle.race_laws.proofs.Touch.{same_or_not, word_kept, word_put, touched, table_stays, role_stays}
-use Rattle.race_laws.proofs.Sound.{Sound, next_table}
-use Rattle.race_laws.proofs.SoundStep.{sound, sounds, table_before, slot_is, slot_place_of, links_child, link_row, linked_now, table_cases, content-0, role_by_offset}
-use Rattle.race_laws.proofs.Frames.{birth_is, header_is, child_is, bucket_is, birth_kept, header_cases, bucket_cases, child_cases, slot_cases, child_stays}
-use Rattle.race_laws.proofs.Finality.{GoesOn, opens, finishes, ripens, gone_on, deeper_on, header_next, bucket_next}
+use Rattle.race_laws.proofs.Step.{StepAt, step_of}
+use Rattle.race_laws.proofs.Touch.{word_kept}
+use Rattle.race_laws.proofs.Sound.{Sound}
+use Rattle.race_laws.proofs.SoundStep.{sound, sounds, links_child, link_row, linked_now, table_cases, content-0, role_by_offset}
+use Rattle.race_laws.proofs.Frames.{child_is}
 
 -- c is the child of table t at level i
 pub record Born (g : Geometry) (past : Past) (t i c : ℕ) : Type 0 where

@@ -1,25 +1,22 @@
 -- Each legal entry keeps what is said of tables, parents and children.
-use Rattle.std.specs.Prelude.{◌≡◌, ◌≢◌, ℕ, zero, suc, ◌+◌, ◌-◌, ◌*◌, ◌/◌, ◌%◌, ◌^◌, ◌<◌, ◌≤◌, Bool, true, false, List, [], ◌∷◌, Option, Some, None, ◌⊎◌, refl}
+use Rattle.std.specs.Prelude.{◌≡◌, ◌≢◌, ℕ, ◌+◌, ◌*◌, ◌^◌, ◌<◌, ◌≤◌, ◌∷◌, ◌⊎◌, refl}
 use Rattle.std.proofs.Common.{sym, ◌∙◌, ap, subst, inl, inr, arith, ⊎_elim}
-use Rattle.slot_word.specs.declared.slots.Mark.{Mark}
-use Rattle.slot_word.specs.declared.slots.Mark.TheVariants.{Live, Pending, Copied, Moved}
+use Rattle.slot_word.specs.declared.slots.Mark.TheVariants.{Copied}
 use Rattle.slot_word.specs.declared.births.Birth.{Birth}
-use Rattle.node_words.specs.declared.geometry.Geometry.{Geometry}
-use Rattle.node_words.specs.Addresses.{node_at, table_words, first_free, first_table, birth_at, header_at, lock_at, child_at, slot_at, bucket_header_at}
-use Rattle.node_words.proofs.FirstTables.{IsInFirst, first_in, first_is, first_same}
+use Rattle.node_words.specs.Addresses.{first_table, header_at, child_at, slot_at}
 use Rattle.verb_log.specs.declared.entry.Entry.{Entry}
-use Rattle.verb_log.specs.Decoded.{Body, Content, Empty, Full, NoSlot, content, Header, PlainAt, SplittingAt, FillingAt, NoHeader, header, birth}
-use Rattle.verb_log.specs.Tables.{Past, Before, here, later, word_at, table_of, role, links}
+use Rattle.verb_log.specs.Decoded.{Body, Full, content, Header, PlainAt, SplittingAt, FillingAt, NoHeader, header}
+use Rattle.verb_log.specs.Tables.{Past, word_at, role}
 use Rattle.race_laws.specs.Setting.{Setting}
 use Rattle.race_laws.specs.Standing.{IsTable, header_in, birth_in, child_in, bucket_in, place_in, depth, IsFilling, IsGone}
-use Rattle.race_laws.specs.Rows.{IsPlace, IsBlank, IsNewborn, LinkRow, CopyRow, FinishRow, RipenHeaderRow}
+use Rattle.race_laws.specs.Rows.{IsPlace}
 use Rattle.race_laws.specs.Legal.{Meets, Legal}
-use Rattle.race_laws.proofs.Step.{StepAt, step_of, SlotStep, place, drop, commit, replace, remove, copy, uncopy, flip, settle, clear, HeaderStep, open_it, finish, ripen, BucketStep, begin, close, ripen_bucket}
-use Rattle.race_laws.proofs.Touch.{same_or_not, word_kept, word_put, touched, table_stays, role_stays}
+use Rattle.race_laws.proofs.Step.{SlotStep, place, drop, commit, replace, remove, copy, uncopy, flip, settle, clear, HeaderStep, open_it, finish, ripen}
+use Rattle.race_laws.proofs.Touch.{same_or_not, word_kept, word_put, table_stays}
 use Rattle.race_laws.proofs.Sound.{Sound, table_some as table_at}
-use Rattle.race_laws.proofs.SoundStep.{slot_is, sound, sounds, table_before, content-0}
-use Rattle.race_laws.proofs.Frames.{header_is, birth_kept, header_cases, bucket_cases, child_cases, slot_cases, child_stays, birth_before}
-use Rattle.race_laws.proofs.Finality.{GoesOn, opens, finishes, ripens, gone_on, deeper_on, filling_on, header_next, bucket_next}
+use Rattle.race_laws.proofs.SoundStep.{slot_is, sound, table_before}
+use Rattle.race_laws.proofs.Frames.{header_is, birth_kept, header_cases, child_cases, slot_cases, child_stays}
+use Rattle.race_laws.proofs.Finality.{GoesOn, opens, finishes, ripens, gone_on, deeper_on, header_next, bucket_next}
 use Rattle.race_laws.proofs.Splits.{IsFirst, Born, Kin, Under, Splits, Linked, linked_at, new_table, new_birth, new_header, new_bucket, new_child, new_slot}
 
 -- headers that differ are no header twice

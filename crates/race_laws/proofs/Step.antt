@@ -1,8 +1,7 @@
 -- What a legal entry is, by the role of its word: the table of kinds turned round, once for all proofs.
-use Rattle.std.specs.Prelude.{◌≡◌, ◌≢◌, ℕ, ◌+◌, ◌<◌, Bool, true, false, cond, not, ◌&&◌, nat_lt, ◌==◌, List, [], ◌∷◌, Option, Some, None, ◌⊎◌, refl}
+use Rattle.std.specs.Prelude.{◌≡◌, ◌≢◌, ℕ, ◌+◌, ◌<◌, Bool, true, false, cond, not, ◌&&◌, nat_lt, ◌==◌, Some, ◌⊎◌, refl}
 use Rattle.std.proofs.Common.{sym, ◌∙◌, ap, subst, inl, inr, arith}
 use Rattle.std.proofs.lemmas.Bool.Decides.{nat_tests}
-use Rattle.slot_word.specs.declared.slots.Mark.{Mark}
 use Rattle.slot_word.specs.declared.slots.Mark.TheVariants.{Live, Pending, Copied, Moved}
 use Rattle.node_words.specs.Roles.{Role, NextWord, DepthWord, DirectoryWord, BirthWord, HeaderWord, LockWord, ReservedWord, ChildWord, BucketWord, SlotWord, HeapWord}
 use Rattle.verb_log.specs.declared.entry.Entry.{Entry}
@@ -10,7 +9,7 @@ use Rattle.verb_log.specs.declared.kind.Kind.{Kind}
 use Rattle.verb_log.specs.declared.kind.Kind.TheVariants.{Store, Take, Place, Drop, Commit, Replace, Remove, Lock, Unlock, Link, Begin, Open, Copy, Uncopy, Flip, Settle, Clear, Finish, Close, Ripen, Name, Deepen}
 use Rattle.verb_log.specs.Decoded.{Body, Content, Empty, Full, NoSlot, content, Header, PlainAt, SplittingAt, FillingAt, NoHeader, header}
 use Rattle.verb_log.specs.Tables.{Past, word_at, role, is_taken, is_published}
-use Rattle.verb_log.specs.Kinds.{kind, same_body, other_block, only_if, slot_kind, header_kind, bucket_kind, lock_kind, kind_of_role}
+use Rattle.verb_log.specs.Kinds.{kind, same_body, other_block, only_if, slot_kind, header_kind, bucket_kind, kind_of_role}
 use Rattle.race_laws.specs.Setting.{Setting}
 use Rattle.race_laws.specs.Rows.{TakeRow, PlaceRow, CommitRow, ReplaceRow, RemoveRow, UnlockRow, LinkRow, BeginRow, OpenRow, CopyRow, UncopyRow, FlipRow, SettleRow, ClearRow, FinishRow, CloseRow, RipenRow, RipenHeaderRow, NameRow, DeepenRow, StoreRow}
 use Rattle.race_laws.specs.Legal.{SlotRow, HeaderRow, BucketRow, LockRow, Has, Row, Meets}

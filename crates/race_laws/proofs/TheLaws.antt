@@ -1,41 +1,36 @@
 -- The seven laws, over logs in order.
-use Rattle.std.specs.Prelude.{◌≡◌, ◌≢◌, ℕ, zero, suc, ◌+◌, ◌*◌, ◌<◌, ◌≤◌, true, List, [], ◌∷◌, ◌++◌, length, take, reverse, Option, Some, None, ◌⊎◌, IsSome, refl}
+use Rattle.std.specs.Prelude.{◌≡◌, ℕ, ◌+◌, ◌<◌, ◌≤◌, List, ◌∷◌, length, reverse, Option, Some, None, ◌⊎◌, IsSome, refl}
 use Rattle.std.proofs.Common.{sym, ◌∙◌, ap, subst, inl, inr, arith, ⊎_elim}
 use Rattle.std.proofs.lemmas.List.{take_all}
 use Rattle.std.specs.FinMap as fin
-use Rattle.slot_word.specs.declared.slots.Mark.{Mark}
-use Rattle.slot_word.specs.declared.slots.Mark.TheVariants.{Live, Pending, Copied, Moved}
+use Rattle.slot_word.specs.declared.slots.Mark.TheVariants.{Live, Pending}
 use Rattle.kv_block.specs.Packing.{Pair}
-use Rattle.kv_block.specs.declared.changes.Change.{Change}
-use Rattle.map_model.specs.Contents.{Contents}
-use Rattle.map_model.specs.Machine.{map_at, map_after}
+use Rattle.map_model.specs.Machine.{map_after}
 use Rattle.node_words.specs.declared.geometry.Geometry.{Geometry}
-use Rattle.node_words.specs.Addresses.{slot_at, header_at, bucket_header_at}
+use Rattle.node_words.specs.Addresses.{slot_at}
 use Rattle.node_words.specs.Roles.{SlotWord}
 use Rattle.verb_log.specs.declared.entry.Entry.{Entry}
-use Rattle.verb_log.specs.declared.kind.Kind.TheVariants.{Commit, Remove, Flip}
-use Rattle.verb_log.specs.Decoded.{Body, Content, Empty, Full, content, Header, PlainAt, SplittingAt, FillingAt, NoHeader}
+use Rattle.verb_log.specs.declared.kind.Kind.TheVariants.{Commit, Remove}
+use Rattle.verb_log.specs.Decoded.{Body, Empty, Full, content, Header}
 use Rattle.verb_log.specs.Tables.{Past, Before, here, later, word_at, pair_at, role}
 use Rattle.verb_log.specs.Kinds.{kind}
 use Rattle.verb_log.specs.Changes.{changes}
-use Rattle.race_laws.specs.Setting.{Setting, hash, places}
-use Rattle.race_laws.specs.Standing.{IsTable, header_in, birth_in, bucket_in, place_in, IsFilling, IsGone, Exits, Word, IsIn}
-use Rattle.race_laws.specs.Chains.{OnChain, Holder, live, copied}
-use Rattle.race_laws.specs.Splits.{IsClear}
-use Rattle.race_laws.specs.Looks.{Looked, SpreadLooked, Between, PassedBy}
-use Rattle.race_laws.specs.Rows.{IsPlace, CommitRow}
-use Rattle.race_laws.specs.Legal.{Meets, Legal, IsLegal}
-use Rattle.race_laws.specs.Laws.{position, map_in, HasOneHolder, OneHolder, KeepsPlace, keeps, goes_down, HolderPlace, HasLeft, IsFinal, Finality, ClearPlaces, CommitLaw, LacksBetween, Absence, IsPresent, Presence}
-use Rattle.race_laws.proofs.Positions.{before_trans, legal_before}
+use Rattle.race_laws.specs.Setting.{Setting}
+use Rattle.race_laws.specs.Standing.{IsTable, IsFilling, IsGone}
+use Rattle.race_laws.specs.Chains.{Holder, live}
+use Rattle.race_laws.specs.Looks.{SpreadLooked}
+use Rattle.race_laws.specs.Rows.{IsPlace}
+use Rattle.race_laws.specs.Legal.{Legal, IsLegal}
+use Rattle.race_laws.specs.Laws.{position, map_in, OneHolder, KeepsPlace, keeps, goes_down, HolderPlace, HasLeft, Finality, ClearPlaces, CommitLaw, LacksBetween, Absence, Presence}
 use Rattle.race_laws.proofs.Step.{StepAt, step_of, SlotStep, place, drop, commit, replace, remove, copy, uncopy, flip, settle, clear}
-use Rattle.race_laws.proofs.SoundStep.{sound, slot_place_of, table_before}
+use Rattle.race_laws.proofs.SoundStep.{sound, slot_place_of}
 use Rattle.race_laws.proofs.Finality.{GoesOn, opens, finishes, ripens, gone_on, filling_on, header_keeps, bucket_keeps}
 use Rattle.race_laws.proofs.Clear.{on_slot, clear_on}
-use Rattle.race_laws.proofs.Homes.{Home, Somewhere, SameHome, one_home}
+use Rattle.race_laws.proofs.Homes.{Somewhere, SameHome, one_home}
 use Rattle.race_laws.proofs.Tracks.{in_order_passed, no_pass}
 use Rattle.race_laws.proofs.Commits.{alone, before_length, before_same, AllHomes, HomeIn, home_track, lonely}
 use Rattle.race_laws.proofs.Onward.{Onward, stays, renewed, flips, removed, onward}
-use Rattle.race_laws.proofs.Maps.{map_of, map_holds, MapHolds, taken_none, effect, Effect, nothing, sets, takes}
+use Rattle.race_laws.proofs.Maps.{map_of, map_holds, taken_none, effect, Effect, nothing, sets, takes}
 use Rattle.race_laws.proofs.Presence.{holder_home, home_holder, copy_present}
 use Rattle.race_laws.proofs.InOrder.{positions_before, position_of, position_legal, length-position, reverse_push}
 
@@ -45,15 +40,17 @@ map_whole g q = ap (map_after fin.empty) (take_all (length (changes g q)) (chang
 
 pub one_holder : OneHolder
 one_holder s log l n h key = record {
-    one = λ t u p r b c pb pc x y. by (one_home s (position log n) lq (alone s (position log n) lq) key t u p r b c pb pc (holder_home s (position log n) lq key t p b pb x) (holder_home s (position log n) lq key u r c pc y));
-    held = λ t p b pr x. ap (λ m. fin.get m key) (map_whole s.geometry (position log n)) ∙ (map_holds s (position log n) lq).held key t p b pr (holder_home s (position log n) lq key t p b pr x);
-    found = λ value g. somewhere value g ((map_holds s (position log n) lq).found key value (sym (ap (λ m. fin.get m key) (map_whole s.geometry (position log n))) ∙ g))
-  }
+  one = λ t u p r b c pb pc x y. by (one_home s (position log n) lq (alone s (position log n) lq) key t u p r b c pb pc (holder_home s (position log n) lq key t p b pb x) (holder_home s (position log n) lq key u r c pc y));
+  held = λ t p b pr x. ap (λ m. fin.get m key) (map_whole s.geometry (position log n)) ∙ (map_holds s (position log n) lq).held key t p b pr (holder_home s (position log n) lq key t p b pr x);
+  found = λ value g. somewhere value g ((map_holds s (position log n) lq).found key value (sym (ap (λ m. fin.get m key) (map_whole s.geometry (position log n))) ∙ g));
+}
   where
     lq : Legal s (position log n)
     lq = position_legal s log n l h
+
     by : {t u p r : ℕ} {b c : Body} → SameHome t u p r b c → (t ≡ u) × (p ≡ r) × (b ≡ c)
     by x = (x.table, x.place, x.body)
+
     somewhere : (value : List ℕ) → fin.get (map_in s.geometry (position log n)) key ≡ Some value → Somewhere s (position log n) key → (t : ℕ) × (p : ℕ) × (b : Body) × (pr : Pair) × Holder s (position log n) key t p b pr × (pr.value ≡ value)
     somewhere value g w =
         let held = ap (λ m. fin.get m key) (map_whole s.geometry (position log n)) ∙ (map_holds s (position log n) lq).held key w.table w.place w.body w.pair w.home in
@@ -68,6 +65,7 @@ holder_place s log e lg key t p b pr x some = by (onward s (reverse log) e l key
   where
     l : Legal s (e ∷ reverse log)
     l = subst (Legal s) (reverse_push log e) lg
+
     gone : kind s.geometry (reverse log) e ≡ Some Remove → slot_at t p ≡ e.at → Effect s (reverse log) e → ⊥
     gone k at (nothing d a c r) = r k
     gone k at (sets u r c pc tb pl at2 n pk d nr) = nr k
@@ -81,6 +79,7 @@ holder_place s log e lg key t p b pr x some = by (onward s (reverse log) e l key
           where
             not_both : kind s.geometry (reverse log) e ≡ Some Remove → kind s.geometry (reverse log) e ≡ Some Commit → ⊥
             not_both k k2 = cc
+
         lacks : ((value : List ℕ) → fin.get (map_of s.geometry (e ∷ reverse log)) key ≡ Some value → ⊥) → ⊥
         lacks f = is_some (fin.get (map_in s.geometry (e ∷ reverse log)) key) refl some
           where
@@ -90,6 +89,7 @@ holder_place s log e lg key t p b pr x some = by (onward s (reverse log) e l key
                 none : IsSome {T = List ℕ} None → ⊥
                 none h = cc
             is_some (Some value) q w = f value (sym (ap (λ m. fin.get m key) (map_whole s.geometry (e ∷ reverse log))) ∙ q)
+
     by : Onward s (reverse log) e key t p b pr → KeepsPlace s (reverse log) e key t p
     by (stays h) = keeps b pr (home_holder s (e ∷ reverse log) l key t p b pr h)
     by (renewed c pc k at n h) = keeps c pc (home_holder s (e ∷ reverse log) l key t p c pc h)
@@ -106,20 +106,21 @@ left_on (ripens d p q) i x = subst (λ v. HasLeft v i) (sym q) (subst (λ v. Has
 
 pub finality : Finality
 finality s log l n m h k t tb = (
-    record {
-      left = λ i x. header_keeps s (λ v. HasLeft v i) (λ a b z. left_on z i) bf lm t tb x;
-      gone = λ i x. header_keeps s (λ v. IsGone v i) (λ a b z. gone_on z i) bf lm t tb x;
-      ripe = λ x. header_keeps s (λ v. IsFilling v → ⊥) (λ a b z y f. y (filling_on z f)) bf lm t tb x
-    },
-    λ bucket low. record {
-      left = λ i x. bucket_keeps s (λ v. HasLeft v i) (λ a b z. left_on z i) bf lm t bucket tb low x;
-      gone = λ i x. bucket_keeps s (λ v. IsGone v i) (λ a b z. gone_on z i) bf lm t bucket tb low x;
-      ripe = λ x. bucket_keeps s (λ v. IsFilling v → ⊥) (λ a b z y f. y (filling_on z f)) bf lm t bucket tb low x
-    }
-  )
+  record {
+    left = λ i x. header_keeps s (λ v. HasLeft v i) (λ a b z. left_on z i) bf lm t tb x;
+    gone = λ i x. header_keeps s (λ v. IsGone v i) (λ a b z. gone_on z i) bf lm t tb x;
+    ripe = λ x. header_keeps s (λ v. IsFilling v → ⊥) (λ a b z y f. y (filling_on z f)) bf lm t tb x;
+  },
+  λ bucket low. record {
+    left = λ i x. bucket_keeps s (λ v. HasLeft v i) (λ a b z. left_on z i) bf lm t bucket tb low x;
+    gone = λ i x. bucket_keeps s (λ v. IsGone v i) (λ a b z. gone_on z i) bf lm t bucket tb low x;
+    ripe = λ x. bucket_keeps s (λ v. IsFilling v → ⊥) (λ a b z y f. y (filling_on z f)) bf lm t bucket tb low x;
+  },
+)
   where
     bf : Before (position log n) (position log m)
     bf = positions_before log n m h
+
     lm : Legal s (position log m)
     lm = position_legal s log m l k
 
@@ -131,6 +132,7 @@ commit_law s log e lg kd b pr n pk = by (fin.get (map_in s.geometry (reverse log
   where
     l : Legal s (e ∷ reverse log)
     l = subst (Legal s) (reverse_push log e) lg
+
     alone_here : (t p : ℕ) → role s.geometry (reverse log) e.at ≡ SlotWord t p → SlotStep s (reverse log) e t p → Somewhere s (reverse log) pr.key → ⊥
     alone_here t p r (place c i o n2 row) w = cc
     alone_here t p r (drop c i o n2) w = cc
@@ -149,6 +151,7 @@ commit_law s log e lg kd b pr n pk = by (fin.get (map_in s.geometry (reverse log
     alone_here t p r (flip c i o n2 row) w = cc
     alone_here t p r (settle c i o n2 row) w = cc
     alone_here t p r (clear c i o n2 row) w = cc
+
     by : (o : Option (List ℕ)) → fin.get (map_in s.geometry (reverse log)) pr.key ≡ o → fin.get (map_in s.geometry (reverse log)) pr.key ≡ None
     by None q = q
     by (Some value) q =
@@ -179,8 +182,10 @@ absent s log l n m h k key w = ⊎_elim (λ x. found x) (λ (a : AllHomes s key 
   where
     bf : Before (position log n) (position log m)
     bf = positions_before log n m h
+
     lm : Legal s (position log m)
     lm = position_legal s log m l k
+
     found : (z : Past) × Before (position log n) z × Before z (position log m) × (fin.get (map_of s.geometry z) key ≡ None) → LacksBetween s log n m key
     found x =
         let y = position_of log m k x.0 x.2 in
@@ -191,13 +196,14 @@ absent s log l n m h k key w = ⊎_elim (λ x. found x) (λ (a : AllHomes s key 
           at = y.0;
           from = omega arith;
           to = y.1;
-          lacks = ap (λ v. fin.get v key) (map_whole s.geometry (position log y.0)) ∙ ap (λ v. fin.get (map_of s.geometry v) key) (sym y.2) ∙ x.3
+          lacks = ap (λ v. fin.get v key) (map_whole s.geometry (position log y.0)) ∙ ap (λ v. fin.get (map_of s.geometry v) key) (sym y.2) ∙ x.3;
         }
+
     none : AllHomes s key (position log n) (position log m) → ⊥
     none a =
         let top = a (position log m) bf here in
         no_pass s key None (position log n) (position log m) lm top.place (HomeIn s key top.place)
-          (home_track s lm (alone s (position log m) lm) bf key None a (λ z v b c o. absurd (not_own o)) top.table top.place top.body top.pair top.home) w
+        (home_track s lm (alone s (position log m) lm) bf key None a (λ z v b c o. absurd (not_own o)) top.table top.place top.body top.pair top.home) w
       where
         not_own : {v : ℕ} → None ≡ Some v → ⊥
         not_own h = cc
@@ -207,6 +213,6 @@ absence s log l n m h k key = ((λ w. absent s log l n m h k key (in_order_passe
 
 pub presence : Presence
 presence s log l m h = record {
-    live = λ t p b pr w ca ch. live t p b pr w refl ca ch;
-    copy = λ n k t c p b pr ta pl ma tc pa w. copy_present s (positions_before log n m k) (position_legal s log m l h) t c p b pr ta pl ma tc pa w.stands w.packs
-  }
+  live = λ t p b pr w ca ch. live t p b pr w refl ca ch;
+  copy = λ n k t c p b pr ta pl ma tc pa w. copy_present s (positions_before log n m k) (position_legal s log m l h) t c p b pr ta pl ma tc pa w.stands w.packs;
+}

@@ -1,14 +1,14 @@
 -- A word is as it was, or the entry changes it as its role allows: the one lemma behind every fact that an entry does not
 -- touch.
-use Rattle.std.specs.Prelude.{◌≡◌, ◌≢◌, ℕ, ◌+◌, ◌<◌, ◌≤◌, Bool, true, false, cond, not, ◌&&◌, ◌||◌, nat_lt, nat_le, ◌==◌, List, [], ◌∷◌, Option, Some, None, ◌⊎◌, refl}
+use Rattle.std.specs.Prelude.{◌≡◌, ◌≢◌, ℕ, Bool, true, false, ◌&&◌, ◌||◌, ◌==◌, [], ◌∷◌, Some, ◌⊎◌, refl}
 use Rattle.std.proofs.Common.{sym, ◌∙◌, ap, subst, inl, inr, arith, ⊎_elim}
 use Rattle.std.proofs.lemmas.Bool.Decides.{nat_tests}
 use Rattle.node_words.specs.declared.geometry.Geometry.{Geometry}
-use Rattle.node_words.specs.Roles.{Role, NextWord, DepthWord, DirectoryWord, BirthWord, HeaderWord, LockWord, ReservedWord, ChildWord, BucketWord, SlotWord, HeapWord, role_in}
+use Rattle.node_words.specs.Roles.{Role, role_in}
 use Rattle.verb_log.specs.declared.entry.Entry.{Entry}
-use Rattle.verb_log.specs.Tables.{Past, Before, here, later, word_at, table_of, role, or_else, linked_by, is_taken, is_taken_by, moves_across, is_published, publishes}
+use Rattle.verb_log.specs.Tables.{Past, word_at, table_of, role, or_else, linked_by, is_taken, is_taken_by, moves_across, is_published, publishes}
 use Rattle.race_laws.specs.Setting.{Setting}
-use Rattle.race_laws.specs.Legal.{Meets, Legal}
+use Rattle.race_laws.specs.Legal.{Meets}
 use Rattle.race_laws.proofs.Step.{StepAt, step_of}
 
 pub same_or_not : (a b : ℕ) → (a ≡ b) ⊎ (a ≢ b)

@@ -1,21 +1,20 @@
 -- A pass that shows no word of a key, down to a table in which the key stays, meets every word of the key that goes down
 -- the chain meanwhile: so there is none.
-use Rattle.std.specs.Prelude.{◌≡◌, ◌≢◌, ℕ, zero, suc, ◌+◌, ◌-◌, ◌*◌, ◌%◌, ◌<◌, ◌≤◌, Bool, true, false, not, cond, ◌==◌, List, [], ◌∷◌, map, filter, Option, Some, None, ◌⊎◌, refl}
+use Rattle.std.specs.Prelude.{◌≡◌, ◌≢◌, ℕ, ◌<◌, ◌≤◌, Bool, true, false, cond, List, [], ◌∷◌, map, filter, Option, Some, None, ◌⊎◌, refl}
 use Rattle.std.proofs.Common.{sym, ◌∙◌, ap, subst, inl, inr, arith, ⊎_elim}
 use Rattle.std.proofs.lemmas.Bool.Decides.{nat_tests}
 use Rattle.slot_word.specs.declared.slots.Mark.{Mark}
 use Rattle.slot_word.specs.declared.slots.Mark.TheVariants.{Live, Pending, Copied, Moved}
 use Rattle.kv_block.specs.Packing.{Pair}
 use Rattle.bucket_group.specs.ExitLevel.{exit_level}
-use Rattle.bucket_group.proofs.ExitLaws.{exit-some, exit-below}
-use Rattle.node_words.specs.declared.geometry.Geometry.{Geometry}
+use Rattle.bucket_group.proofs.ExitLaws.{exit-below}
 use Rattle.node_words.specs.Addresses.{slot_at}
-use Rattle.verb_log.specs.Decoded.{Body, Content, Empty, Full, NoSlot, content, Header, PlainAt, SplittingAt, FillingAt, NoHeader}
-use Rattle.verb_log.specs.Tables.{Past, Before, here, later, word_at, table_of}
+use Rattle.verb_log.specs.Decoded.{Body, Full, content}
+use Rattle.verb_log.specs.Tables.{Past, Before, here, word_at}
 use Rattle.race_laws.specs.Setting.{Setting, hash, places}
-use Rattle.race_laws.specs.Standing.{IsTable, header_in, birth_in, child_in, place_in, key_header, IsFilling, IsGone, Exits, Stays, Word, IsIn}
+use Rattle.race_laws.specs.Standing.{IsTable, header_in, child_in, place_in, IsFilling, Exits, Word, IsIn}
 use Rattle.race_laws.specs.Chains.{OnChain}
-use Rattle.race_laws.specs.Looks.{Reading, Searched, IsAmong, Between, InOrder, Answers, IsMiss, AllMiss, is_other, read_places, Misses, Passing, begins, goes_on, HasOwn, PassedBy}
+use Rattle.race_laws.specs.Looks.{Reading, Searched, IsAmong, Between, InOrder, Answers, IsMiss, AllMiss, is_other, read_places, Misses, Passing, begins, goes_on, PassedBy}
 use Rattle.race_laws.specs.Rows.{IsPlace}
 use Rattle.race_laws.specs.Legal.{Legal}
 use Rattle.race_laws.proofs.Positions.{before_trans, legal_before}
@@ -23,10 +22,9 @@ use Rattle.race_laws.proofs.Touch.{same_or_not}
 use Rattle.race_laws.proofs.SoundStep.{table_before}
 use Rattle.race_laws.proofs.Frames.{child_before}
 use Rattle.race_laws.proofs.Finality.{ripe_before}
-use Rattle.race_laws.proofs.Splits.{Splits}
 use Rattle.race_laws.proofs.Opening.{splits}
 use Rattle.race_laws.proofs.Clear.{between_span, passing_span, key_gone, copy_fills}
-use Rattle.race_laws.proofs.Chain.{born_at, born_before, Further, chain_table, chain_same, chain_before, way_down, further_born}
+use Rattle.race_laws.proofs.Chain.{born_at, born_before, chain_table, chain_same, chain_before, way_down, further_born}
 use Rattle.race_laws.proofs.Homes.{parent_of}
 
 -- what a place shows of a key

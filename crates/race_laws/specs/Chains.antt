@@ -1,11 +1,11 @@
 -- The tables in which a key may stand, and the slot that holds it.
-use Rattle.std.specs.Prelude.{◌≡◌, ◌≢◌, ℕ, ◌<◌, ◌*◌, ◌^◌, ◌%◌, List, Option, Some, None, ◌⊎◌}
+use Rattle.std.specs.Prelude.{◌≡◌, ◌≢◌, ℕ, ◌<◌, ◌*◌, ◌^◌, ◌%◌, List, Some}
 use Rattle.slot_word.specs.declared.slots.Mark.TheVariants.{Live, Copied, Moved}
 use Rattle.kv_block.specs.Packing.{Pair}
 use Rattle.bucket_group.specs.ExitLevel.{exit_level}
 use Rattle.node_words.specs.declared.geometry.Geometry.{Geometry}
 use Rattle.node_words.specs.Addresses.{first_table}
-use Rattle.verb_log.specs.Decoded.{Body, Content, Full, Header, PlainAt, SplittingAt}
+use Rattle.verb_log.specs.Decoded.{Body, Full, PlainAt, SplittingAt}
 use Rattle.verb_log.specs.Tables.{Past}
 use Rattle.race_laws.specs.Setting.{Setting, hash, places}
 use Rattle.race_laws.specs.Standing.{IsTable, header_in, birth_in, child_in, bucket_in, place_in, IsGone, Word, IsIn}

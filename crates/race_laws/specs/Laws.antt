@@ -1,8 +1,8 @@
 -- What the laws of legal logs say. A log stands in order here; its position n is the log of its first n entries.
-use Rattle.std.specs.Prelude.{◌≡◌, ◌≢◌, ℕ, ◌+◌, ◌*◌, ◌<◌, ◌≤◌, List, [], ◌∷◌, ◌++◌, length, take, reverse, Option, Some, None, ◌⊎◌, IsSome}
+use Rattle.std.specs.Prelude.{◌≡◌, ◌≢◌, ℕ, ◌*◌, ◌<◌, ◌≤◌, List, [], ◌∷◌, ◌++◌, length, take, reverse, Some, None, IsSome}
 use Rattle.std.specs.FinMap.{get}
 use Rattle.slot_word.specs.declared.slots.Mark.{Mark}
-use Rattle.slot_word.specs.declared.slots.Mark.TheVariants.{Live, Pending, Copied, Moved}
+use Rattle.slot_word.specs.declared.slots.Mark.TheVariants.{Live, Copied, Moved}
 use Rattle.kv_block.specs.Packing.{Pair}
 use Rattle.map_model.specs.Contents.{Contents}
 use Rattle.map_model.specs.Machine.{map_at}
@@ -10,7 +10,7 @@ use Rattle.node_words.specs.declared.geometry.Geometry.{Geometry}
 use Rattle.node_words.specs.Addresses.{slot_at}
 use Rattle.verb_log.specs.declared.entry.Entry.{Entry}
 use Rattle.verb_log.specs.declared.kind.Kind.TheVariants.{Commit, Flip}
-use Rattle.verb_log.specs.Decoded.{Body, Content, Full, content, Header, PlainAt, SplittingAt, FillingAt, NoHeader}
+use Rattle.verb_log.specs.Decoded.{Body, Full, content, Header, PlainAt, SplittingAt, FillingAt, NoHeader}
 use Rattle.verb_log.specs.Tables.{Past, pair_at}
 use Rattle.verb_log.specs.Kinds.{kind}
 use Rattle.verb_log.specs.Changes.{changes}

@@ -1,9 +1,9 @@
 -- Legal logs, newest entry first: each entry has a kind and meets its row.
-use Rattle.std.specs.Prelude.{◌≡◌, ℕ, ◌<◌, List, [], ◌∷◌, ◌++◌, reverse, Option, Some, None}
+use Rattle.std.specs.Prelude.{◌≡◌, ℕ, ◌<◌, List, [], ◌∷◌, reverse, Option, Some, None}
 use Rattle.node_words.specs.Roles.{Role, NextWord, DepthWord, DirectoryWord, BirthWord, HeaderWord, LockWord, ReservedWord, ChildWord, BucketWord, SlotWord, HeapWord}
 use Rattle.verb_log.specs.declared.entry.Entry.{Entry}
 use Rattle.verb_log.specs.declared.kind.Kind.{Kind}
-use Rattle.verb_log.specs.declared.kind.Kind.TheVariants.{Store, Take, Place, Drop, Commit, Replace, Remove, Lock, Unlock, Link, Begin, Open, Copy, Uncopy, Flip, Settle, Clear, Finish, Close, Ripen, Name, Deepen}
+use Rattle.verb_log.specs.declared.kind.Kind.TheVariants.{Place, Drop, Commit, Replace, Remove, Lock, Unlock, Begin, Open, Copy, Uncopy, Flip, Settle, Clear, Finish, Close, Ripen}
 use Rattle.verb_log.specs.Tables.{Past, word_at, role}
 use Rattle.verb_log.specs.Kinds.{kind}
 use Rattle.race_laws.specs.Setting.{Setting}

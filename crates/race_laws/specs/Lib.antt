@@ -7,4 +7,3 @@ pub mod Rows
 pub mod Legal
 pub mod Laws
 pub mod Leaving
-

@@ -1,14 +1,13 @@
 -- What a pass down the chain of a key has read: a look, and a sweep that leaves out the call's own slot.
-use Rattle.std.specs.Prelude.{◌≡◌, ◌≢◌, ℕ, ◌+◌, Bool, true, not, ◌==◌, List, [], ◌∷◌, map, Option, Some, None, ◌⊎◌}
+use Rattle.std.specs.Prelude.{◌≡◌, ◌≢◌, ℕ, Bool, true, not, ◌==◌, List, [], ◌∷◌, map, Option, Some, None, ◌⊎◌}
 use Rattle.std.specs.Prelude.{filter}
-use Rattle.slot_word.specs.declared.slots.Mark.{Mark}
 use Rattle.slot_word.specs.declared.slots.Mark.TheVariants.{Live, Pending, Copied, Moved}
 use Rattle.kv_block.specs.Packing.{Pair}
 use Rattle.node_words.specs.Addresses.{slot_at}
-use Rattle.verb_log.specs.Decoded.{Body, Content, Full}
+use Rattle.verb_log.specs.Decoded.{Body, Full}
 use Rattle.verb_log.specs.Tables.{Past, Before, table_of}
 use Rattle.race_laws.specs.Setting.{Setting, hash, places}
-use Rattle.race_laws.specs.Standing.{IsTable, header_in, child_in, place_in, key_header, IsFilling, IsGone, Exits, Stays, Word}
+use Rattle.race_laws.specs.Standing.{header_in, child_in, place_in, key_header, IsFilling, IsGone, Exits, Stays, Word}
 use Rattle.race_laws.specs.Chains.{OnChain}
 
 -- a slot's place, and the position at which it was read

@@ -1,23 +1,21 @@
 -- What must hold of an entry that follows a legal log, one record for each kind that asks for more than its kind.
 -- In each record the rights (who took the words, who has the lock, who placed the word) stand last, apart from what the
 -- laws of the index need.
-use Rattle.std.specs.Prelude.{◌≡◌, ◌≢◌, ℕ, ◌+◌, ◌-◌, ◌*◌, ◌^◌, ◌%◌, ◌<◌, ◌≤◌, true, false, List, ◌∷◌, Option, Some, None, ◌⊎◌}
-use Rattle.slot_word.specs.declared.slots.Mark.{Mark}
+use Rattle.std.specs.Prelude.{◌≡◌, ◌≢◌, ℕ, ◌+◌, ◌-◌, ◌*◌, ◌^◌, ◌%◌, ◌<◌, ◌≤◌, true, false, ◌∷◌, Some, ◌⊎◌}
 use Rattle.slot_word.specs.declared.slots.Mark.TheVariants.{Live, Pending, Copied, Moved}
 use Rattle.kv_block.specs.Packing.{Pair}
 use Rattle.node_words.specs.declared.geometry.Geometry.{Geometry}
-use Rattle.node_words.specs.Addresses.{node_size, table_words, first_free, directory_at, lock_at}
-use Rattle.node_words.specs.Roles.{Role, BirthWord, HeaderWord, LockWord, ReservedWord, ChildWord, BucketWord, SlotWord, offset_role}
+use Rattle.node_words.specs.Addresses.{node_size, table_words, first_free, directory_at}
+use Rattle.node_words.specs.Roles.{Role, BirthWord, HeaderWord, LockWord, BucketWord, offset_role}
 use Rattle.verb_log.specs.declared.entry.Entry.{Entry}
-use Rattle.verb_log.specs.declared.kind.Kind.{Kind}
 use Rattle.verb_log.specs.declared.kind.Kind.TheVariants.{Place}
-use Rattle.verb_log.specs.Decoded.{Body, Content, Empty, Full, content, Header, PlainAt, SplittingAt, FillingAt, header}
+use Rattle.verb_log.specs.Decoded.{Body, Full, content, PlainAt, SplittingAt, FillingAt, header}
 use Rattle.verb_log.specs.Tables.{Past, Before, word_at, pair_at, is_taken_by, is_published}
 use Rattle.verb_log.specs.Kinds.{kind}
 use Rattle.race_laws.specs.Setting.{Setting, hash, places, print_of}
 use Rattle.race_laws.specs.Standing.{IsTable, header_in, birth_in, lock_in, child_in, bucket_in, place_in, depth, IsFilling, IsPlain, Exits, Word, IsIn}
 use Rattle.race_laws.specs.Chains.{OnChain, Holder}
-use Rattle.race_laws.specs.Splits.{IsOpen, IsClear, WasClear, IsQuiet, IsChild}
+use Rattle.race_laws.specs.Splits.{IsOpen, WasClear, IsQuiet, IsChild}
 use Rattle.race_laws.specs.Looks.{Swept}
 
 -- each of the n words from a on was taken by the client

@@ -1,10 +1,10 @@
 -- Splits under way: places that are done with, and tables that no split touches.
-use Rattle.std.specs.Prelude.{◌≡◌, ◌≢◌, ℕ, suc, ◌+◌, ◌*◌, ◌<◌, ◌≤◌}
+use Rattle.std.specs.Prelude.{◌≡◌, ◌≢◌, ℕ, ◌+◌, ◌*◌, ◌<◌, ◌≤◌}
 use Rattle.slot_word.specs.declared.slots.Mark.{Mark}
 use Rattle.slot_word.specs.declared.slots.Mark.TheVariants.{Copied}
 use Rattle.kv_block.specs.Packing.{Pair}
 use Rattle.node_words.specs.declared.geometry.Geometry.{Geometry}
-use Rattle.verb_log.specs.Decoded.{Body, Content, Header, PlainAt, SplittingAt, FillingAt, NoHeader}
+use Rattle.verb_log.specs.Decoded.{Body, Header, PlainAt, SplittingAt, FillingAt, NoHeader}
 use Rattle.verb_log.specs.Tables.{Past, Before}
 use Rattle.race_laws.specs.Setting.{Setting}
 use Rattle.race_laws.specs.Standing.{IsTable, header_in, birth_in, child_in, bucket_in, depth, IsFilling, IsPlain, Exits, Word}

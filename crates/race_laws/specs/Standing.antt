@@ -1,12 +1,12 @@
 -- What stands in the words of a table at a position of a log.
-use Rattle.std.specs.Prelude.{◌≡◌, ◌≢◌, ℕ, ◌+◌, ◌-◌, ◌*◌, ◌<◌, ◌≤◌, List, [], ◌∷◌, Option, Some, None, ◌⊎◌}
+use Rattle.std.specs.Prelude.{◌≡◌, ℕ, ◌<◌, ◌≤◌, List, [], ◌∷◌, Some, ◌⊎◌}
 use Rattle.slot_word.specs.declared.slots.Mark.{Mark}
 use Rattle.slot_word.specs.declared.births.Birth.{Birth}
 use Rattle.kv_block.specs.Packing.{Pair}
 use Rattle.bucket_group.specs.ExitLevel.{exit_level}
 use Rattle.node_words.specs.declared.geometry.Geometry.{Geometry}
 use Rattle.node_words.specs.Addresses.{header_at, lock_at, child_at, slot_at, bucket_header_at}
-use Rattle.verb_log.specs.Decoded.{Body, Content, Empty, Full, NoSlot, content, Header, PlainAt, SplittingAt, FillingAt, NoHeader, header, birth}
+use Rattle.verb_log.specs.Decoded.{Body, Content, Full, content, Header, PlainAt, SplittingAt, FillingAt, NoHeader, header, birth}
 use Rattle.verb_log.specs.Tables.{Past, word_at, pair_at, table_of}
 use Rattle.race_laws.specs.Setting.{Setting, hash, main_of}
 
