@@ -1,14 +1,14 @@
 -- One record more, with its change where it made one, keeps the facts that give a legal history.
-use Rattle.std.proofs.Common.{◌≡◌, ◌≢◌, ℕ, zero, suc, ◌+◌, ◌<◌, ◌≤◌, Bool, true, false, cond, ◌&&◌, ◌||◌, leb, ltb, eqb, List, [], ◌∷◌, ◌++◌, length, take, map, filter, find, Option, Some, None, refl, sym, ap, ◌∙◌, subst, arith}
+use Rattle.std.proofs.Common.{◌≡◌, ℕ, ◌+◌, ◌≤◌, Bool, true, false, cond, ◌&&◌, leb, ltb, eqb, List, [], ◌∷◌, ◌++◌, length, map, filter, find, Some, None, refl, ap, ◌∙◌, arith}
 use Rattle.std.proofs.lemmas.Bool.Decides.{nat_tests}
-use Rattle.std.proofs.lemmas.List.{append-nil, length_push, length-append, take-append-le}
+use Rattle.std.proofs.lemmas.List.{append-nil, length-append, take-append-le}
 use Rattle.std.proofs.lemmas.List.Elements.{filter-append}
 use Rattle.std.specs.List.{AllByRecursion}
 use Rattle.std.specs.FinMap as fin
 use Rattle.kv_block.specs.declared.changes.Change.{Change}
 use Rattle.map_model.specs.declared.records.Record.{Record}
 use Rattle.map_model.specs.Machine.{reply_of, map_after, map_at, change_of, is_change}
-use Rattle.map_model.specs.History.{is_answer, is_change_at, is_change_late, told, IsWithin, IsRight, IsAnsweredRight, Matches, IsFounded, IsAfter, precedes, in_order}
+use Rattle.map_model.specs.History.{is_change_at, is_change_late, told, IsRight, IsAnsweredRight, Matches, IsFounded, IsAfter, precedes, in_order}
 use Rattle.map_model.proofs.Filtered.{weaker, append_all, filter_none}
 
 -- the first n changes are those of a longer list

@@ -1,5 +1,5 @@
 -- From facts of each record and each change alone to a legal history.
-use Rattle.std.proofs.Common.{◌≡◌, ℕ, zero, suc, ◌+◌, ◌<◌, ◌≤◌, Bool, true, false, cond, ◌&&◌, ◌||◌, leb, eqb, List, [], ◌∷◌, ◌++◌, length, take, map, filter, All, Option, Some, None, is_some, refl, sym, ap, ◌∙◌, subst, append_assoc, arith}
+use Rattle.std.proofs.Common.{◌≡◌, ℕ, ◌+◌, ◌≤◌, Bool, true, false, cond, ◌&&◌, ◌||◌, leb, eqb, List, [], ◌∷◌, ◌++◌, length, map, filter, Option, Some, None, is_some, refl, sym, ap, ◌∙◌, subst, append_assoc, arith}
 use Rattle.std.proofs.lemmas.Bool.Decides.{nat_tests}
 use Rattle.std.proofs.lemmas.List.{append-nil, length_push, take_at, take_all, map-append}
 use Rattle.std.proofs.lemmas.List.Elements.{filter-append, All-from_recursion}
@@ -12,8 +12,8 @@ use Rattle.map_model.specs.declared.calls.Reply.{Reply}
 use Rattle.map_model.specs.declared.calls.Reply.TheVariants.{Found, Missing, Inserted, Exists, Updated, Deleted, Split, Again, FullDepth, FullWords, NoBlock}
 use Rattle.map_model.specs.declared.records.Record.{Record}
 use Rattle.map_model.specs.Contents.{Contents}
-use Rattle.map_model.specs.Machine.{search_reply, insert_reply, update_reply, delete_reply, key_of, reply_at, reply_of, after, with_value, changed, map_after, map_at, change_of, is_change, is_quiet}
-use Rattle.map_model.specs.History.{is_answer, is_quiet_at, is_change_at, is_late, is_change_late, history_from, history, Replays, told, made, numbered, IsWithin, IsAnswerWithin, IsRight, IsAnsweredRight, Matches, IsFounded, IsLegal}
+use Rattle.map_model.specs.Machine.{insert_reply, update_reply, delete_reply, reply_of, after, changed, map_after, map_at, change_of, is_change, is_quiet}
+use Rattle.map_model.specs.History.{is_answer, is_quiet_at, is_change_at, is_late, is_change_late, history_from, Replays, told, made, numbered, IsAnswerWithin, IsAnsweredRight, Matches, IsFounded, IsLegal}
 use Rattle.map_model.proofs.Filtered.{weaker, both, kept, filter_none, filter_all}
 
 -- a quiet reply is no change

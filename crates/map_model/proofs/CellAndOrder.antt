@@ -1,5 +1,5 @@
 -- What holds of each legal history: each key is a cell of one thread, and what was seen stands before.
-use Rattle.std.proofs.Common.{◌≡◌, ◌≢◌, ℕ, zero, suc, ◌+◌, ◌<◌, ◌≤◌, Bool, true, false, cond, ◌&&◌, ◌||◌, leb, ltb, eqb, List, [], ◌∷◌, ◌++◌, length, map, filter, All, Option, Some, None, is_some, ◌⊎◌, refl, sym, ap, ◌∙◌, subst, inl, inr, arith}
+use Rattle.std.proofs.Common.{◌≡◌, ℕ, ◌+◌, ◌<◌, ◌≤◌, Bool, true, false, cond, ◌&&◌, ◌||◌, leb, eqb, List, [], ◌∷◌, ◌++◌, length, map, filter, Option, Some, None, is_some, ◌⊎◌, refl, sym, ap, ◌∙◌, subst, inl, inr, arith}
 use Rattle.std.proofs.lemmas.Bool.{cases_lt}
 use Rattle.std.proofs.lemmas.Bool.Decides.{nat_tests}
 use Rattle.std.proofs.lemmas.List.Elements.{recursion_from_All}
@@ -14,10 +14,10 @@ use Rattle.map_model.specs.declared.calls.Call.{Call}
 use Rattle.map_model.specs.declared.calls.Call.TheVariants.{Insert, Search, Update, Delete, Resize}
 use Rattle.map_model.specs.declared.records.Record.{Record}
 use Rattle.map_model.specs.Contents.{Contents}
-use Rattle.map_model.specs.Machine.{key_of, reply_at, reply_of, after, value_after, change_of, is_change, is_quiet}
-use Rattle.map_model.specs.History.{is_answer, is_quiet_at, is_change_at, is_late, history_from, history, Replays, told, made, numbered, IsWithin, IsAnswerWithin, IsLegal, Has}
+use Rattle.map_model.specs.Machine.{key_of, reply_at, after, value_after, is_change, is_quiet}
+use Rattle.map_model.specs.History.{is_answer, is_quiet_at, is_change_at, is_late, history_from, history, Replays, told, made, numbered, IsAnswerWithin, IsLegal, Has}
 use Rattle.map_model.specs.Laws.{IsCell, StandsBefore, SawItsChange}
-use Rattle.map_model.proofs.Bridge.{quiet_no_change, answer_quiet, change_answer}
+use Rattle.map_model.proofs.Bridge.{quiet_no_change, change_answer}
 use Rattle.map_model.proofs.AnyOrder.{all_has}
 
 -- ---- each key is a cell

@@ -1,17 +1,16 @@
 -- The map of places after a change more.
-use Rattle.std.proofs.Common.{◌≡◌, ℕ, zero, suc, ◌-◌, ◌<◌, Bool, true, false, cond, List, [], ◌∷◌, ◌++◌, length, get_or, Option, Some, None, Result, Ok, Err, Vec, refl, sym, ap, ◌∙◌, subst, arith, rules}
+use Rattle.std.proofs.Common.{◌≡◌, ℕ, zero, suc, ◌-◌, ◌<◌, Bool, true, false, cond, List, [], ◌∷◌, ◌++◌, length, get_or, Some, None, Result, Ok, Err, Vec, refl, sym, ap, ◌∙◌, arith, rules}
 use Rattle.std.proofs.lemmas.Option.{slice_get_within}
 use Rattle.std.specs.Global.{Global}
 use Rattle.std.specs.Result.{IsOk, OnOk, OnErr}
 use Rattle.std.specs.Option.{option_map_or, option_and_then}
 use Rattle.std.specs.List.{slice_get}
-use Rattle.std.specs.Ordering.{eq_by_cmp}
 use Rattle.std.specs.BTreeMap as tree
 use Rattle.std.specs.BTreeMap.{BTreeMap, is_at}
 use Rattle.kv_block.specs.declared.changes.Change.{Change}
 use Rattle.kv_block.specs.Bytes.{key_cmp, key_eq}
 use Rattle.kv_block.proofs.Keys.{key_ties, key_eq-is, key_eq_equiv}
-use Rattle.map_model.specs.Places.{places_at, places_from, value_of, latest}
+use Rattle.map_model.specs.Places.{places_at, value_of, latest}
 use Rattle.map_model.proofs.FirstMoment.{latest_last}
 
 -- an element that was read, as an option

@@ -1,5 +1,5 @@
 -- The least point at which the map gives a reply: more changes do not move it, and it makes a record right.
-use Rattle.std.proofs.Common.{◌≡◌, ◌≢◌, ℕ, ◌+◌, ◌<◌, ◌≤◌, List, ◌++◌, length, Some, refl, sym, ap, ◌∙◌, subst, inl, inr, arith}
+use Rattle.std.proofs.Common.{◌≡◌, ℕ, ◌≤◌, List, ◌++◌, length, Some, sym, ap, ◌∙◌, inl, inr, arith}
 use Rattle.std.proofs.lemmas.Bool.{cases_lt}
 use Rattle.std.proofs.lemmas.List.{length-append}
 use Rattle.kv_block.specs.declared.changes.Change.{Change}
@@ -7,7 +7,7 @@ use Rattle.map_model.specs.declared.calls.Call.{Call}
 use Rattle.map_model.specs.declared.calls.Reply.{Reply}
 use Rattle.map_model.specs.declared.records.Record.{Record}
 use Rattle.map_model.specs.Machine.{reply_of, map_at}
-use Rattle.map_model.specs.History.{IsRight, IsWithin}
+use Rattle.map_model.specs.History.{IsRight}
 use Rattle.map_model.specs.Moments.{IsFirst}
 use Rattle.map_model.proofs.Added.{map_at-append}
 

@@ -80,7 +80,7 @@ fn records() -> Result<[Record; 6], Fail> {
     ])
 }
 
-fn changes_of(alloc: Global, calls: &[Call; 6]) -> Result<Changes, Fail> {
+fn changes_of(alloc: Global, calls: &[Call]) -> Result<Changes, Fail> {
     let mut changes = Changes::new(alloc);
     for call in calls {
         if let Some(change) = call.change() {
@@ -91,11 +91,12 @@ fn changes_of(alloc: Global, calls: &[Call; 6]) -> Result<Changes, Fail> {
     Ok(changes)
 }
 
-fn listed(alloc: Global, given: &[Record; 6]) -> Result<Records, Fail> {
+// The records, with one of them replaced.
+fn listed(alloc: Global, given: &[Record], place: usize, other: Record) -> Result<Records, Fail> {
     let mut records = Records::new(alloc);
-    for answered in given {
+    for (i, one) in given.iter().enumerate() {
         records.reserve()?;
-        records.push(*answered)?;
+        records.push(if i == place { other } else { *one })?;
     }
     Ok(records)
 }
@@ -105,28 +106,52 @@ fn a_finished_insert_is_kept(rt: HostRuntime) -> Result<(), Fail> {
     let alloc = rt.alloc();
     let (calls, good) = (calls()?, records()?);
     let changes = changes_of(alloc, &calls)?;
-    assert!(rt; is_legal(alloc, &changes, &listed(alloc, &good)?)?);
-    let mut other_reply = good;
-    other_reply[4].reply = Reply::Deleted(value(b"2")?);
-    assert!(rt; !is_legal(alloc, &changes, &listed(alloc, &other_reply)?)?);
-    let mut other_calls = calls;
-    other_calls[5] = Call::Insert {
-        key: key(b"k")?,
-        value: value(b"3")?,
-    };
+    let (second, delete) = (good[1], good[4]);
+    let other_reply = Reply::Deleted(value(b"2")?);
+    assert!(rt; is_legal(alloc, &changes, &listed(alloc, &good, 4, delete)?)?);
     assert!(rt;
         !is_legal(
             alloc,
-            &changes_of(alloc, &other_calls)?,
-            &listed(alloc, &good)?
+            &changes,
+            &listed(
+                alloc,
+                &good,
+                4,
+                Record {
+                    reply: other_reply,
+                    ..delete
+                }
+            )?
         )?
     );
-    let mut late_bound = good;
-    late_bound[4].lo = 5;
-    assert!(rt; !is_legal(alloc, &changes, &listed(alloc, &late_bound)?)?);
-    let mut same_number = good;
-    same_number[1].number = 1;
-    assert!(rt; !is_legal(alloc, &changes, &listed(alloc, &same_number)?)?);
+    assert!(rt;
+        !is_legal(
+            alloc,
+            &changes,
+            &listed(alloc, &good, 4, Record { lo: 5, ..delete })?
+        )?
+    );
+    assert!(rt;
+        !is_legal(
+            alloc,
+            &changes,
+            &listed(
+                alloc,
+                &good,
+                1,
+                Record {
+                    number: 1,
+                    ..second
+                }
+            )?
+        )?
+    );
+    let mut other_change = changes_of(alloc, &calls[..5])?;
+    other_change.push(Change {
+        key: key(b"k")?,
+        value: Some(value(b"3")?),
+    })?;
+    assert!(rt; !is_legal(alloc, &other_change, &listed(alloc, &good, 4, delete)?)?);
     Ok(())
 }
 

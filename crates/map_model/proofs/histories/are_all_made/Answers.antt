@@ -1,4 +1,4 @@
-use Rattle.std.proofs.Common.{◌≡◌, ◌↔◌, List, [], drop, length, subst, arith}
+use Rattle.std.proofs.Common.{◌≡◌, ◌↔◌, List, [], drop, subst, arith}
 use Rattle.std.proofs.lemmas.List.{drop_all}
 use Rattle.map_model.specs.declared.records.Record.{Record}
 use Rattle.map_model.specs.History.{made, numbered}

@@ -1,4 +1,4 @@
-use Rattle.std.proofs.Common.{◌≡◌, ℕ, ◌-◌, ◌+◌, ◌<◌, ◌∷◌, drop, length, sym, ◌∙◌, arith}
+use Rattle.std.proofs.Common.{◌≡◌, ◌-◌, ◌+◌, sym, ◌∙◌, arith}
 use Rattle.map_model.proofs.LegalSteps.{from_place, back_false, back_true, back_next}
 use Rattle.map_model.proofs.histories.are_in_order.Goals as goal
 

@@ -1,4 +1,4 @@
-use Rattle.std.proofs.Common.{◌≡◌, List, Ok, rules, tests, sym, ap, ◌∙◌, length, subst, filter}
+use Rattle.std.proofs.Common.{◌≡◌, List, Ok, rules, tests, sym, length, subst, filter}
 use Rattle.std.specs.declared.alloc.AllocError.{AllocError}
 use Rattle.std.specs.List.Sorted.{IsStableByKey}
 use Rattle.std.specs.Ordering.{nat_cmp}

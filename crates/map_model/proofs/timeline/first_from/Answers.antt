@@ -1,8 +1,5 @@
-use Rattle.std.proofs.Common.{◌≡◌, ◌≢◌, ℕ, ◌+◌, ◌<◌, ◌≤◌, ◌∷◌, List, length, drop, get_or, Some, sym, ap, subst, arith, rules}
-use Rattle.std.proofs.lemmas.List.{drop_more}
 use Rattle.map_model.specs.Machine.{key_of}
-use Rattle.map_model.specs.Moments.{Steady}
-use Rattle.map_model.proofs.FirstMoment.{steady_value, later_than, first_here, first_never}
+use Rattle.map_model.proofs.FirstMoment.{steady_value, first_here}
 use Rattle.map_model.proofs.timeline.first_from.Goals as goal
 
 pub returns-then-gives : goal.returns-then-gives

@@ -1,4 +1,4 @@
-use Rattle.std.proofs.Common.{◌≡◌, ◌≢◌, ℕ, ◌<◌, ◌≤◌, drop, length, Some}
+use Rattle.std.proofs.Common.{◌≢◌, ℕ, ◌<◌, ◌≤◌, drop, length, Some}
 use Rattle.map_model.specs.Machine.{key_of, reply_of, map_at}
 use Rattle.map_model.specs.Moments.{Steady}
 use Rattle.map_model.proofs.timeline.first_from.Given as goal

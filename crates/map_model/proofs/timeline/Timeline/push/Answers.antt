@@ -1,4 +1,4 @@
-use Rattle.std.proofs.Common.{◌≡◌, ℕ, cond, List, [], ◌∷◌, ◌++◌, length, sym, ap, ◌∙◌, rules}
+use Rattle.std.proofs.Common.{◌≡◌, cond, [], ◌∷◌, ◌++◌, length, sym, ap, ◌∙◌}
 use Rattle.kv_block.specs.Bytes.{key_eq}
 use Rattle.map_model.specs.Places.{places_from}
 use Rattle.map_model.proofs.FirstMoment.{places_from-push}
