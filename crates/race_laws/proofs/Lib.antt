@@ -21,3 +21,4 @@ pub mod Presence
 pub mod InOrder
 pub mod TheLaws
 pub mod Rights
+pub mod Possible
