@@ -30,7 +30,7 @@ fn ordered(alloc: Global, changes: &[Change], records: &[Record]) -> Result<Vec<
         .filter(|r| r.is_answer())
         .copied()
         .collect(alloc)?;
-    answers.sort_by_key(|r| r.place(count))?;
+    answers.sort_by_cached_key(|r| r.place(count))?;
     Ok(answers)
 }
 
