@@ -1,0 +1,6 @@
+//! The play.
+#![tactic(auto)]
+
+mod table;
+
+pub use table::Table;
