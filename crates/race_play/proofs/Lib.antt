@@ -1,1 +1,4 @@
+pub mod Gathering
+pub mod Holdings
+pub mod OpenTable
 pub mod Seating

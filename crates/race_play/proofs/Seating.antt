@@ -258,3 +258,14 @@ Lays-extended words new pairs p from h few pair fits next room long new_next new
   where
     slots_apart : (j k : ℕ) → j ≢ k → slot_address j ≢ slot_address k
     slots_apart j k apart e = apart (omega arith)
+
+no_number : (k : ℕ) → None ≡ Some k → ⊥
+no_number k g = cc
+
+-- the first free slot is the one behind the pairs
+pub vacant_place : (n k : ℕ) (o : Option ℕ) → o ≡ cond (n == 21) None (Some n) → o ≡ Some k → k ≡ n
+vacant_place n k o e f = by (n == 21) (sym e ∙ f)
+  where
+    by : (b : Bool) → cond b None (Some n) ≡ Some k → k ≡ n
+    by true g = absurd (no_number k g)
+    by false g = sym (ap (λ (p : Option ℕ). unwrap_or p n) g)

@@ -2,10 +2,18 @@
 use Rattle.std.specs.Prelude.{◌≡◌, ℕ, ◌+◌, ◌*◌, ◌/◌, ◌%◌, ◌^◌, ◌<◌, ◌≤◌, List, [], ◌∷◌, length, slice_index, Option, Some, None, if◌then◌else◌}
 use Rattle.kv_block.specs.Bytes.{key_eq}
 use Rattle.kv_block.specs.Packing.{Pair, IsPair, packed}
+use Rattle.node_words.specs.declared.geometry.Geometry.{Geometry}
 use Rattle.slot_word.specs.declared.slots.Slot.{Slot}
 use Rattle.slot_word.specs.declared.slots.Mark.TheVariants.{Live}
 use Rattle.slot_word.specs.Slots.{IsSlot, slot_word}
-use Rattle.key_hash.specs.Hashes.{hash_of}
+use Rattle.key_hash.specs.Mixing.{mixed}
+
+-- one node, and one table of one group that is never split
+pub record IsOneTable (g : Geometry) : Type 0 where
+  pub groups : g.groups ≡ 1
+  pub max_depth : g.max_depth ≡ 0
+  pub first_depth : g.first_depth ≡ 0
+  pub nodes : g.nodes ≡ 1
 
 -- the address of slot k, of 21: seven in each of the three buckets of the table at 3
 abbrev pub slot_address : ℕ → ℕ
@@ -17,7 +25,7 @@ need p = length (packed p.key p.value)
 
 -- the fingerprint of a key
 abbrev pub print_of : List ℕ → ℕ
-print_of key = hash_of [] key / 2 ^ 56
+print_of key = mixed key / 2 ^ 56
 
 -- the slot of a pair whose block stands at this address
 abbrev pub live_slot : Pair → ℕ → Slot
@@ -62,3 +70,8 @@ value_at (p ∷ ps) key = if key_eq p.key key then Some p.value else value_at ps
 abbrev pub value_there : List Pair → List ℕ → Option (List ℕ)
 value_there [] key = None
 value_there (p ∷ ps) key = if key_eq p.key key then Some p.value else None
+
+-- the pair that comes first
+abbrev pub first_of : List Pair → Option Pair
+first_of [] = None
+first_of (p ∷ ps) = Some p
