@@ -1,4 +1,6 @@
 pub mod Gathering
 pub mod Holdings
 pub mod OpenTable
+pub mod Plainness
+pub mod Playing
 pub mod Seating

@@ -1,3 +1,5 @@
 pub mod Holding
 pub mod Layout
+pub mod Outcomes
+pub mod Plays
 pub mod Replies

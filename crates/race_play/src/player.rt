@@ -1,0 +1,149 @@
+// The play of a script of one client, and its report.
+ghost use Rattle.std.specs.Prelude.{◌≡◌, ◌≤◌, ◌↔◌, ℕ, ◌∷◌, [], IsTrue, IfOk, OnOk, IsErrOf, Some, None, length, true};
+ghost use Rattle.std.specs.List.{list_all};
+ghost use Rattle.map_model.specs.Machine.{is_change, is_quiet};
+ghost use Rattle.trace_script.specs.Gives.{told_of};
+ghost use Rattle.trace_script.specs.declared.lines.Tag.TheVariants.{Point, Nothing};
+ghost use Rattle.race_play.specs.Holding.{Holds};
+ghost use Rattle.race_play.specs.Replies.{Held, opened};
+ghost use Rattle.race_play.specs.Plays.{tag_of, lines_from, held_by, is_plain_call, is_plain, plain_script, replayed, Replays};
+ghost use Rattle.race_play.specs.declared.player.PlayFault.TheVariants.{OutOfMemory};
+
+use crate::table::Table;
+use map_model::{Call, Calls, Nexts, Reply};
+use std::alloc::{AllocError, Global};
+use trace_script::{Line, Lines, Mode, Script, ScriptFault, Tag, Text, read_script, report_text};
+
+/// The most calls of a script.
+const MOST_CALLS: usize = 65_536;
+
+/// Why there is no report.
+#[derive(Clone, Copy, Debug, PartialEq, Eq)]
+pub enum PlayFault {
+    /// The bytes are no script of this form.
+    NoScript,
+    /// Want of memory.
+    OutOfMemory,
+}
+
+impl From<AllocError> for PlayFault {
+    ghost from_gives = { λ _ e. e ≡ OutOfMemory };
+
+    fn from(_e: AllocError) -> PlayFault {
+        PlayFault::OutOfMemory
+    }
+}
+
+// Whether a reply is that of a call that changed the map.
+fn is_change(reply: &Reply) -> bool
+    ensures { result ≡ is_change reply.now }
+{
+    matches!(
+        reply,
+        Reply::Inserted | Reply::Updated(_) | Reply::Deleted(_)
+    )
+}
+
+// The tag of a reply, after so many changes.
+fn tag_of(reply: &Reply, changes: u64) -> Tag
+    ensures { (held : Held) → held.changes ≡ changes → result ≡ tag_of held reply.now }
+{
+    match reply {
+        Reply::Found(_)
+        | Reply::Missing
+        | Reply::Inserted
+        | Reply::Exists(_)
+        | Reply::Updated(_)
+        | Reply::Deleted(_) => Tag::Point(changes),
+        Reply::Split { .. }
+        | Reply::Again { .. }
+        | Reply::FullDepth { .. }
+        | Reply::FullWords { .. }
+        | Reply::NoBlock { .. } => Tag::Nothing,
+    }
+}
+
+// Plays the calls on the words of a table that holds nothing, and makes their lines.
+fn play(alloc: Global, table: &mut Table, calls: &Calls) -> Result<Lines, AllocError>
+    requires held { Holds table.old opened }
+    requires few { length calls.now.items ≤ 65536 }
+    ensures lines { IfOk result (λ lines. lines.items ≡ lines_from (length table.old) 1 opened calls.now.items) }
+    ensures held { OnOk result (Holds table.new (held_by (length table.old) opened calls.now.items)) }
+{
+    let mut lines = Lines::new(alloc);
+    let mut changes = 0;
+    let items = calls.as_slice();
+    for (index, call) in items.iter().enumerate() {
+        let reply = table.answer(call);
+        lines.push(Line {
+            client: 0,
+            number: index as u32 + 1,
+            reply: Some(reply),
+            tag: tag_of(&reply, changes),
+        })?;
+        if is_change(&reply) {
+            changes += 1;
+        }
+    }
+    Ok(lines)
+}
+
+// Whether all calls are inserts and searches.
+fn are_plain(calls: &Calls) -> bool
+    ensures { result ≡ list_all is_plain_call calls.now.items }
+{
+    calls
+        .as_slice()
+        .iter()
+        .all(|call| matches!(call, Call::Insert { .. } | Call::Search { .. }))
+}
+
+// Whether a script is of this form.
+fn is_plain(alloc: Global, script: &Script) -> Result<bool, AllocError>
+    ensures { IfOk result (λ plain. plain ≡ is_plain (told_of script.now)) }
+{
+    let geometry = script.geometry();
+    if script.version() != 1
+        || geometry.groups != 1
+        || geometry.max_depth != 0
+        || geometry.first_depth != 0
+        || geometry.nodes != 1
+        || script.clients() != 1
+    {
+        return Ok(false);
+    }
+    let calls = script.calls(0);
+    if script.stop(0).is_some() || calls.len() > MOST_CALLS || !are_plain(calls) {
+        return Ok(false);
+    }
+    Ok(script.placer(alloc)?.len() == 0 && script.items(alloc)?.len() == 0)
+}
+
+// The report of the play of a script of this form.
+fn report(alloc: Global, script: &Script) -> Result<Text, AllocError>
+    requires { is_plain (told_of script.now) ≡ true }
+    ensures { IfOk result (λ text. text.items ≡ replayed script.now) }
+{
+    let mut table = Table::open(alloc, &script.geometry())?;
+    let lines = play(alloc, &mut table, script.calls(0))?;
+    let map = table.contents(alloc)?;
+    let next = Nexts::one(table.next());
+    report_text(alloc, Mode::Replay, script, &lines, &map, next)
+}
+
+/// The report of the play of the script that bytes spell. It answers NoScript exactly where they spell none of this
+/// form.
+pub fn replay_text(alloc: Global, bytes: &[u8]) -> Result<Text, PlayFault>
+    ensures text { IfOk result (λ text. Replays bytes.now text.items) }
+    ensures refused { IsErrOf result PlayFault.NoScript → plain_script bytes.now ≡ None }
+{
+    let script = match read_script(alloc, bytes) {
+        Ok(script) => script,
+        Err(ScriptFault::Refused { .. }) => return Err(PlayFault::NoScript),
+        Err(ScriptFault::OutOfMemory) => return Err(PlayFault::OutOfMemory),
+    };
+    if !is_plain(alloc, &script)? {
+        return Err(PlayFault::NoScript);
+    }
+    Ok(report(alloc, &script)?)
+}

@@ -1,0 +1,67 @@
+// The call that reads a script, plays it and writes its report.
+ghost use Rattle.std.specs.Prelude.{◌≡◌, ℕ, ◌≤◌, ◌↔◌, [], ◌∷◌, IsTrue, codes, map, List};
+ghost use Rattle.race_io.specs.Counts.{Rose};
+ghost use Rattle.race_io.specs.Transfer.{TakesSome};
+ghost use Rattle.race_play.specs.Outcomes.{IsStatus, Plays, PlaysInPart, Refuses};
+
+use crate::player::{PlayFault, replay_text};
+use race_io::{Sink, Source, TakeFault, put_all, take_all};
+use std::alloc::Global;
+
+/// How a call of the program ended.
+#[derive(Clone, Copy, Debug, PartialEq, Eq)]
+pub struct Ended {
+    /// 0: the script was played and its whole report written. 2: the words are no command. 3: the bytes read are no
+    /// script of this form. 4: the source failed. 5: the sink failed. 6: want of memory.
+    pub status: u8,
+}
+
+/// The most bytes that are read: one more than a script may have.
+const MOST_BYTES: u64 = 4_194_305;
+
+// Whether the words are the command `replay`.
+fn is_replay(words: &[&str]) -> bool
+    ensures { IsTrue result ↔ (map (λ word. word.now) words.now ≡ codes "replay" ∷ []) }
+{
+    match words {
+        [word] => *word == "replay",
+        _ => false,
+    }
+}
+
+/// Reads the source to its end, plays the script and writes its report.
+pub fn race<S: Source, K: Sink>(
+    alloc: Global,
+    words: &[&str],
+    source: &mut S,
+    sink: &mut K,
+) -> Ended
+    ensures statuses { IsStatus result.status }
+    ensures command { (result.status ≡ 2) ↔ ¬ (map (λ word. word.now) words.now ≡ codes "replay" ∷ []) }
+    ensures untouched { result.status ≡ 2 → source.new ≡ source.old }
+    ensures played { result.status ≡ 0 → Plays (S.left source.old) (S.left source.new) (K.taken sink.old) (K.taken sink.new) }
+    ensures refused { result.status ≡ 3 → Refuses (S.left source.old) (S.left source.new) }
+    ensures unread { result.status ≡ 4 → Rose (S.faults source.old) (S.faults source.new) }
+    ensures cut_off { result.status ≡ 5 → Rose (K.faults sink.old) (K.faults sink.new) }
+    ensures in_part { result.status ≡ 5 → PlaysInPart (S.left source.old) (S.left source.new) (K.taken sink.old) (K.taken sink.new) }
+    ensures source_counted { S.faults source.old ≤ S.faults source.new }
+    ensures sink_counted { K.faults sink.old ≤ K.faults sink.new }
+{
+    if !is_replay(words) {
+        return Ended { status: 2 };
+    }
+    let bytes = match take_all(alloc, source, MOST_BYTES) {
+        Ok(bytes) => bytes,
+        Err(TakeFault::Failed) => return Ended { status: 4 },
+        Err(TakeFault::OutOfMemory) => return Ended { status: 6 },
+    };
+    let text = match replay_text(alloc, bytes.as_slice()) {
+        Ok(text) => text,
+        Err(PlayFault::NoScript) => return Ended { status: 3 },
+        Err(PlayFault::OutOfMemory) => return Ended { status: 6 },
+    };
+    match put_all(sink, text.as_slice()) {
+        Ok(()) => Ended { status: 0 },
+        Err(_) => Ended { status: 5 },
+    }
+}
