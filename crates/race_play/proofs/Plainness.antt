@@ -1,32 +1,44 @@
 -- What it means that a script is of this form.
-use Rattle.std.proofs.Common.{◌≡◌, ℕ, ◌≤◌, ◌<◌, ◌==◌, ◌&&◌, Bool, true, false, cond, List, [], ◌∷◌, length, Option, Some, None, refl, sym, ap, ◌∙◌, arith, Result, Ok, Err, map as map_list, eqb-eq}
-use Rattle.std.specs.Option.{option_map}
-use Rattle.std.specs.List.{list_all, slice_get}
+use Rattle.std.proofs.Common.{◌≡◌, ℕ, ◌≤◌, ◌==◌, nat_lt, ◌&&◌, Bool, true, false, cond, List, [], ◌∷◌, length, Option, Some, None, refl, sym, ap, ◌∙◌, arith, Result, Ok, Err}
 use Rattle.std.proofs.lemmas.Bool.Decides.{nat_tests}
-use Rattle.map_model.specs.declared.calls.Call.{Call}
-use Rattle.trace_script.specs.Content.{Content, ScriptValue, stop_at}
+use Rattle.trace_script.specs.Content.{Content, ScriptValue, stop_at, calls_at}
 use Rattle.trace_script.specs.Rules.{Told, Refusal, script_of}
 use Rattle.trace_script.specs.Gives.{told_of}
 use Rattle.race_play.specs.Layout.{IsOneTable}
-use Rattle.race_play.specs.Plays.{is_plain, first_calls, if_plain, plain_script}
-
-both : (a b : Bool) → a && b ≡ true → (a ≡ true) × (b ≡ true)
-both true true e = (refl, refl)
-both true false e = absurd (cc)
-both false b e = absurd (cc)
+use Rattle.race_play.specs.Plays.{is_plain, if_plain, plain_script}
 
 -- the tests of a script of this form, one by one
 pub record Parts (script : ScriptValue) : Type 0 where
   pub table : IsOneTable script.geometry
   pub client : length script.content.clients ≡ 1
-  pub few : length (first_calls script.content.clients) ≤ 65536
+  pub few : length (calls_at script.content 0) ≤ 65536
 
 pub plain_parts : (script : ScriptValue) → is_plain (told_of script) ≡ true → Parts script
-plain_parts script e =
-    let g = script.geometry in
-    grind (arith, nat_tests)
+plain_parts script e = record {
+    table = record { groups = grind (arith, nat_tests); max_depth = grind (arith, nat_tests); first_depth = grind (arith, nat_tests); nodes = grind (arith, nat_tests) };
+    client = grind (arith, nat_tests);
+    few = grind (arith, nat_tests);
+  }
 
--- the calls of the first client, as they stand at its place
-pub calls_first : (clients : List (List ℕ × List Call)) (calls : List Call) → option_map (λ (e : List ℕ × List Call). e.1) (slice_get clients 0) ≡ Some calls → calls ≡ first_calls clients
-calls_first [] calls e = absurd (cc)
-calls_first (client ∷ clients) calls e = ?
+-- what was read is a script of this form, or none
+pub plain-some : (bytes : List ℕ) (told : Told) → script_of bytes ≡ Ok told → is_plain told ≡ true → plain_script bytes ≡ Some told
+plain-some bytes told e p = ap if_plain e ∙ ap (λ (b : Bool). cond b (Some told) None) p
+
+pub plain-none : (bytes : List ℕ) (told : Told) → script_of bytes ≡ Ok told → is_plain told ≡ false → plain_script bytes ≡ None
+plain-none bytes told e p = ap if_plain e ∙ ap (λ (b : Bool). cond b (Some told) None) p
+
+pub plain-refused : (bytes : List ℕ) (refusal : Refusal) → script_of bytes ≡ Err refusal → plain_script bytes ≡ None
+plain-refused bytes refusal e = ap if_plain e
+
+not_refused : (b : Bool) (refusal : Refusal) (rest : Result Told Refusal) (told : Told) → if_plain (cond b (Err refusal) rest) ≡ Some told → b ≡ false
+not_refused true refusal rest told e = absurd (none_some e)
+  where
+    none_some : None ≡ Some told → ⊥
+    none_some f = cc
+not_refused false refusal rest told e = refl
+
+-- bytes of too great a number are no script
+pub plain-short : (bytes : List ℕ) (told : Told) → plain_script bytes ≡ Some told → length bytes ≤ 4194304
+plain-short bytes told e =
+    let short : nat_lt 4194304 (length bytes) ≡ false = not_refused _ _ _ told e in
+    grind (arith, nat_tests)

@@ -1,13 +1,19 @@
 -- One call more.
-use Rattle.std.proofs.Common.{◌≡◌, ℕ, zero, suc, ◌+◌, ◌<◌, ◌≤◌, Bool, true, false, cond, List, [], ◌∷◌, ◌++◌, length, take, get_or, Option, Some, None, refl, sym, ap, ◌∙◌, arith, ◌||◌, map as map_list}
+use Rattle.std.proofs.Common.{◌≡◌, ℕ, zero, suc, ◌+◌, ◌<◌, ◌≤◌, Bool, true, false, cond, List, [], ◌∷◌, ◌++◌, length, take, get_or, Option, Some, None, refl, sym, ap, ◌∙◌, subst, arith, ◌||◌, map as map_list}
 use Rattle.std.specs.FinMap as map
+use Rattle.std.specs.List.{All}
+use Rattle.std.specs.Prelude.{IsTrue, IfOk, Result, Ok, Err}
+use Rattle.kv_block.specs.Bytes.{key_eq}
+use Rattle.kv_block.proofs.Keys.{key_eq-is, key_eq-same}
+use Rattle.trace_script.specs.Content.{Content, calls_at}
+use Rattle.trace_script.specs.Report.{IsOfCall}
 use Rattle.std.proofs.lemmas.List.{take_more, length-take-le}
 use Rattle.map_model.specs.Machine.{is_change, is_quiet, search_reply}
 use Rattle.map_model.specs.declared.calls.Call.{Call}
 use Rattle.map_model.specs.declared.calls.Call.TheVariants.{Insert, Search, Update, Delete, Resize}
 use Rattle.map_model.specs.declared.calls.Reply.{Reply}
-use Rattle.trace_script.specs.declared.lines.Line.{Line}
-use Rattle.trace_script.specs.declared.lines.Tag.{Tag}
+use Rattle.trace_script.specs.declared.report.Line.{Line}
+use Rattle.trace_script.specs.declared.report.Tag.{Tag}
 use Rattle.race_play.specs.Replies.{Held, opened, reply_to, held_after, with_pair}
 use Rattle.race_play.specs.Plays.{tag_of, line_of, lines_from, held_by}
 
@@ -85,3 +91,42 @@ pub map-one : {X : Type 0} (f : X → List ℕ) (xs : List X) (d : X) → 1 ≤ 
 map-one f [] d h k = absurd (omega arith)
 map-one f (x ∷ []) d h k = refl
 map-one f (x ∷ y ∷ xs) d h k = absurd (omega arith)
+
+-- the lines are of calls of the first client
+pub lines-of_calls : (words n : ℕ) (held : Held) (calls : List Call) → All (λ (line : Line). (line.client ≡ 0) × (n ≤ line.number) × (line.number < n + length calls)) (lines_from words n held calls)
+lines-of_calls words n held [] = λ k d l. absurd (omega arith)
+lines-of_calls words n held (call ∷ calls) = with_first _ _ (refl, omega arith, omega arith) (λ k d l. later (get_or (lines_from words (n + 1) (held_after held call (reply_to words held call)) calls) k d) (lines-of_calls words (n + 1) (held_after held call (reply_to words held call)) calls k d l))
+  where
+    later : (line : Line) → (line.client ≡ 0) × (n + 1 ≤ line.number) × (line.number < n + 1 + length calls) → (line.client ≡ 0) × (n ≤ line.number) × (line.number < n + length (call ∷ calls))
+    later line h = let low = h.1 in let high = h.2 in (h.0, omega arith, omega (arith, high))
+    with_first : (line : Line) (lines : List Line) → (line.client ≡ 0) × (n ≤ line.number) × (line.number < n + length (call ∷ calls)) → All (λ (l : Line). (l.client ≡ 0) × (n ≤ l.number) × (l.number < n + length (call ∷ calls))) lines → All (λ (l : Line). (l.client ≡ 0) × (n ≤ l.number) × (l.number < n + length (call ∷ calls))) (line ∷ lines)
+    with_first line lines h hs zero d l = h
+    with_first line lines h hs (suc k) d l = hs k d (omega arith)
+
+-- so they are of calls of the script
+pub lines-of_script : (content : Content) (words : ℕ) (held : Held) → length content.clients ≡ 1 → All (λ (line : Line). IsOfCall content line) (lines_from words 1 held (calls_at content 0))
+lines-of_script content words held one = λ k d l.
+    of_call (get_or (lines_from words 1 held (calls_at content 0)) k d) (lines-of_calls words 1 held (calls_at content 0) k d l)
+  where
+    of_call : (line : Line) → (line.client ≡ 0) × (1 ≤ line.number) × (line.number < 1 + length (calls_at content 0)) → IsOfCall content line
+    of_call line h = let client = h.0 in let high = h.2 in record {
+        client = omega (arith, client, one);
+        least = h.1;
+        most = subst (λ (n : ℕ). line.number ≤ length (calls_at content n)) (sym client) (omega (arith, high));
+      }
+
+-- the one item of a list is this text, by its test
+pub one-word : {X : Type 0} (f : X → List ℕ) (xs : List X) (d : X) (text : List ℕ) (b : Bool) → 1 ≤ length xs → length xs < 2 → b ≡ key_eq (f (get_or xs 0 d)) text → (IsTrue b → map_list f xs ≡ text ∷ []) × (map_list f xs ≡ text ∷ [] → IsTrue b)
+one-word f xs d text b h k e =
+    let one : map_list f xs ≡ f (get_or xs 0 d) ∷ [] = map-one f xs d h (omega arith) in
+    ((λ t. one ∙ ap (λ (w : List ℕ). w ∷ []) (key_eq-is (f (get_or xs 0 d)) text (sym e ∙ t))),
+     (λ m. e ∙ ap (λ (w : List ℕ). key_eq w text) (ap first_word_of (sym one ∙ m)) ∙ key_eq-same text))
+  where
+    first_word_of : List (List ℕ) → List ℕ
+    first_word_of [] = []
+    first_word_of (w ∷ ws) = w
+
+-- what holds of each result holds of this one
+pub if-ok : {X E : Type 0} (P Q : X → Type 0) (r : Result X E) → ((x : X) → P x → Q x) → IfOk r P → IfOk r Q
+if-ok P Q (Ok x) f h = f x h
+if-ok P Q (Err e) f h = tt

@@ -1,18 +1,19 @@
 -- The lines of a play, and when bytes are a script of one client that inserts and searches.
 use Rattle.std.specs.Prelude.{◌≡◌, ℕ, ◌+◌, ◌==◌, ◌&&◌, ◌||◌, nat_le, Bool, true, false, List, [], ◌∷◌, length, Option, Some, None, is_none, Result, Ok, Err, if◌then◌else◌}
-use Rattle.std.specs.List.{list_all, flat_map}
+use Rattle.std.specs.List.{list_all}
+use Rattle.std.specs.FinMap as map
 use Rattle.map_model.specs.Machine.{is_change, is_quiet}
 use Rattle.map_model.specs.declared.calls.Call.{Call}
 use Rattle.map_model.specs.declared.calls.Call.TheVariants.{Insert, Search, Update, Delete, Resize}
 use Rattle.map_model.specs.declared.calls.Reply.{Reply}
-use Rattle.trace_script.specs.Content.{Content, ScriptValue, stop_at}
+use Rattle.trace_script.specs.Content.{Content, ScriptValue, stop_at, calls_at}
 use Rattle.trace_script.specs.Rules.{Told, Refusal, script_of}
 use Rattle.trace_script.specs.Gives.{told_of}
-use Rattle.trace_script.specs.Reports.{report_of}
-use Rattle.trace_script.specs.declared.lines.Line.{Line}
-use Rattle.trace_script.specs.declared.lines.Mode.TheVariants.{Replay}
-use Rattle.trace_script.specs.declared.lines.Tag.{Tag}
-use Rattle.trace_script.specs.declared.lines.Tag.TheVariants.{Point, Nothing}
+use Rattle.trace_script.specs.Report.{report}
+use Rattle.trace_script.specs.declared.report.Line.{Line}
+use Rattle.trace_script.specs.declared.report.Mode.TheVariants.{Replay}
+use Rattle.trace_script.specs.declared.report.Tag.{Tag}
+use Rattle.trace_script.specs.declared.report.Tag.TheVariants.{Point, Nothing}
 use Rattle.race_play.specs.Replies.{Held, opened, reply_to, held_after}
 
 -- the replies of the map have a point, which is how many changes there were before; the others have none
@@ -42,23 +43,13 @@ is_plain_call (Update key value) = false
 is_plain_call (Delete key) = false
 is_plain_call (Resize key) = false
 
--- the calls of the first client
-abbrev pub first_calls : List (List ℕ × List Call) → List Call
-first_calls [] = []
-first_calls (client ∷ clients) = client.1
-
--- there is nothing in a list
-abbrev pub is_nothing : {X : Type 0} → List X → Bool
-is_nothing [] = true
-is_nothing (x ∷ xs) = false
-
--- a `race 1` script with one table of one group that is never split, one client, and lines of inserts and searches alone
+-- a `race 1` script with one table of one group that is never split, one client that never stops, and calls that are
+-- inserts and searches; hash and schedule lines change no reply of such a script
 abbrev pub is_plain : Told → Bool
 is_plain told =
     (told.version == 1) && (told.sizes.groups == 1) && (told.sizes.max_depth == 0) && (told.sizes.first_depth == 0) && (told.sizes.nodes == 1)
     && (length told.content.clients == 1) && is_none (stop_at told.content 0)
-    && nat_le (length (first_calls told.content.clients)) 65536 && list_all is_plain_call (first_calls told.content.clients)
-    && is_nothing told.content.hashes && is_nothing (flat_map (λ items. items) told.content.schedules)
+    && nat_le (length (calls_at told.content 0)) 65536 && list_all is_plain_call (calls_at told.content 0)
 
 -- what was read, where it is a script of this form
 abbrev pub if_plain : Result Told Refusal → Option Told
@@ -73,10 +64,10 @@ plain_script bytes = if_plain (script_of bytes)
 -- and the next free word at the end
 abbrev pub replayed : ScriptValue → List ℕ
 replayed script =
-    let calls = first_calls script.content.clients in
+    let calls = calls_at script.content 0 in
     let words = script.geometry.words in
     let end = held_by words opened calls in
-    report_of Replay script (lines_from words 1 opened calls) end.map (end.next ∷ [])
+    report Replay script (lines_from words 1 opened calls) (map.entries end.map) (end.next ∷ [])
 
 -- the text is the report of the script of this form that the bytes spell
 pub record Replays (bytes text : List ℕ) : Type 0 where

@@ -3,7 +3,7 @@ ghost use Rattle.std.specs.Prelude.{◌≡◌, ◌≤◌, ◌↔◌, ℕ, ◌∷
 ghost use Rattle.std.specs.List.{list_all};
 ghost use Rattle.map_model.specs.Machine.{is_change, is_quiet};
 ghost use Rattle.trace_script.specs.Gives.{told_of};
-ghost use Rattle.trace_script.specs.declared.lines.Tag.TheVariants.{Point, Nothing};
+ghost use Rattle.trace_script.specs.declared.report.Tag.TheVariants.{Point, Nothing};
 ghost use Rattle.race_play.specs.Holding.{Holds};
 ghost use Rattle.race_play.specs.Replies.{Held, opened};
 ghost use Rattle.race_play.specs.Plays.{tag_of, lines_from, held_by, is_plain_call, is_plain, plain_script, replayed, Replays};
@@ -99,8 +99,8 @@ fn are_plain(calls: &Calls) -> bool
 }
 
 // Whether a script is of this form.
-fn is_plain(alloc: Global, script: &Script) -> Result<bool, AllocError>
-    ensures { IfOk result (λ plain. plain ≡ is_plain (told_of script.now)) }
+fn is_plain(script: &Script) -> bool
+    ensures { result ≡ is_plain (told_of script.now) }
 {
     let geometry = script.geometry();
     if script.version() != 1
@@ -110,13 +110,10 @@ fn is_plain(alloc: Global, script: &Script) -> Result<bool, AllocError>
         || geometry.nodes != 1
         || script.clients() != 1
     {
-        return Ok(false);
+        return false;
     }
     let calls = script.calls(0);
-    if script.stop(0).is_some() || calls.len() > MOST_CALLS || !are_plain(calls) {
-        return Ok(false);
-    }
-    Ok(script.placer(alloc)?.len() == 0 && script.items(alloc)?.len() == 0)
+    script.stop(0).is_none() && calls.len() <= MOST_CALLS && are_plain(calls)
 }
 
 // The report of the play of a script of this form.
@@ -142,7 +139,7 @@ pub fn replay_text(alloc: Global, bytes: &[u8]) -> Result<Text, PlayFault>
         Err(ScriptFault::Refused { .. }) => return Err(PlayFault::NoScript),
         Err(ScriptFault::OutOfMemory) => return Err(PlayFault::OutOfMemory),
     };
-    if !is_plain(alloc, &script)? {
+    if !is_plain(&script) {
         return Err(PlayFault::NoScript);
     }
     Ok(report(alloc, &script)?)
