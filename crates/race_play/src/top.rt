@@ -29,7 +29,13 @@ fn is_replay(words: &[&str]) -> bool
     }
 }
 
-/// Reads the source to its end, plays the script and writes its report.
+/// Reads the source to its end, plays the script and writes its report. Every call returns, and nothing is written
+/// before the whole report is made.
+///
+/// The status is 2 exactly where the words are not `replay` alone, and then nothing is read or written. It is 4 only
+/// where the source's count of faults rose, and 5 only where the sink's count rose, after the play. It is 3 exactly
+/// where no read failed and the bytes read are no script of this form: nothing is written then. At 6 memory was
+/// wanting, and nothing is written.
 pub fn race<S: Source, K: Sink>(
     alloc: Global,
     words: &[&str],
@@ -38,12 +44,30 @@ pub fn race<S: Source, K: Sink>(
 ) -> Ended
     ensures statuses { IsStatus result.status }
     ensures command { (result.status ≡ 2) ↔ ¬ (map (λ word. word.now) words.now ≡ codes "replay" ∷ []) }
-    ensures untouched { result.status ≡ 2 → source.new ≡ source.old }
+
+    // The words are no command: nothing is read or written.
+    ensures unread { result.status ≡ 2 → source.new ≡ source.old }
+    ensures unused { result.status ≡ 2 → sink.new ≡ sink.old }
+
+    // The script was played and its whole report written.
     ensures played { result.status ≡ 0 → Plays (S.left source.old) (S.left source.new) (K.taken sink.old) (K.taken sink.new) }
+
+    // The bytes are no script of this form.
     ensures refused { result.status ≡ 3 → Refuses (S.left source.old) (S.left source.new) }
-    ensures unread { result.status ≡ 4 → Rose (S.faults source.old) (S.faults source.new) }
+    ensures refused_unwritten { result.status ≡ 3 → sink.new ≡ sink.old }
+
+    // The source failed: its count of faults rose.
+    ensures failed { result.status ≡ 4 → Rose (S.faults source.old) (S.faults source.new) }
+    ensures failed_part { result.status ≡ 4 → TakesSome (S.left source.old) (S.left source.new) 4194305 }
+    ensures failed_unwritten { result.status ≡ 4 → sink.new ≡ sink.old }
+
+    // The sink failed: its count of faults rose, and the report was written in part.
     ensures cut_off { result.status ≡ 5 → Rose (K.faults sink.old) (K.faults sink.new) }
     ensures in_part { result.status ≡ 5 → PlaysInPart (S.left source.old) (S.left source.new) (K.taken sink.old) (K.taken sink.new) }
+
+    // There was no memory.
+    ensures wanting { result.status ≡ 6 → sink.new ≡ sink.old }
+
     ensures source_counted { S.faults source.old ≤ S.faults source.new }
     ensures sink_counted { K.faults sink.old ≤ K.faults sink.new }
 {
