@@ -1,12 +1,12 @@
 -- The map and the pairs that the words hold, as a pair is added.
-use Rattle.std.proofs.Common.{◌≡◌, ℕ, ◌+◌, ◌≤◌, Bool, true, false, cond, List, [], ◌∷◌, ◌++◌, length, Option, Some, None, refl, sym, ap, ◌∙◌, arith, length-append, is_some}
+use Rattle.std.proofs.Common.{◌≡◌, ℕ, ◌+◌, Bool, true, false, cond, List, [], ◌∷◌, ◌++◌, length, Option, Some, None, refl, sym, ap, ◌∙◌, arith, length-append, is_some}
 use Rattle.std.specs.Ordering.{eq_by_cmp}
 use Rattle.std.specs.FinMap as map
 use Rattle.kv_block.specs.Bytes.{key_cmp, key_eq}
 use Rattle.kv_block.specs.Packing.{Pair}
-use Rattle.kv_block.proofs.Keys.{key_cmp_total, key_cmp-IsAntisymmetric, key_eq-is, key_eq-same, key_ties}
+use Rattle.kv_block.proofs.Keys.{key_cmp_total, key_eq-is, key_eq-same, key_ties}
 use Rattle.map_model.specs.Contents.{Contents}
-use Rattle.race_play.specs.Layout.{Lays, IsTable, next_after, value_at}
+use Rattle.race_play.specs.Layout.{Lays, IsTable, value_at}
 use Rattle.race_play.specs.Holding.{Holds}
 use Rattle.race_play.specs.Replies.{Held, with_pair}
 use Rattle.race_play.proofs.Seating.{next_after-append}
@@ -44,25 +44,26 @@ insert-append m ps p same none key = map.get-insert key_cmp_total m p.key p.valu
   where
     ties : eq_by_cmp key_cmp key p.key ≡ key_eq p.key key
     ties = sym (key_ties key p.key) ∙ key_eq-swap key p.key
+
     by : (b : Bool) → key_eq p.key key ≡ b → cond (eq_by_cmp key_cmp key p.key) (Some p.value) (map.get m key) ≡ cond (is_some (value_at ps key)) (value_at ps key) (cond (key_eq p.key key) (Some p.value) None)
     by true e =
-      let absent : value_at ps key ≡ None = sym (same key) ∙ ap (map.get m) (sym (key_eq-is p.key key e)) ∙ none in
-      ap (λ (b : Bool). cond b (Some p.value) (map.get m key)) (ties ∙ e)
-      ∙ sym (ap (λ (o : Option (List ℕ)). cond (is_some o) o (cond (key_eq p.key key) (Some p.value) None)) absent ∙ ap (λ (b : Bool). cond b (Some p.value) None) e)
+        let absent : value_at ps key ≡ None = sym (same key) ∙ ap (map.get m) (sym (key_eq-is p.key key e)) ∙ none in
+        ap (λ (b : Bool). cond b (Some p.value) (map.get m key)) (ties ∙ e)
+        ∙ sym (ap (λ (o : Option (List ℕ)). cond (is_some o) o (cond (key_eq p.key key) (Some p.value) None)) absent ∙ ap (λ (b : Bool). cond b (Some p.value) None) e)
     by false e =
-      ap (λ (b : Bool). cond b (Some p.value) (map.get m key)) (ties ∙ e) ∙ same key
-      ∙ sym (ap (λ (b : Bool). cond (is_some (value_at ps key)) (value_at ps key) (cond b (Some p.value) None)) e ∙ chosen (value_at ps key))
+        ap (λ (b : Bool). cond b (Some p.value) (map.get m key)) (ties ∙ e) ∙ same key
+        ∙ sym (ap (λ (b : Bool). cond (is_some (value_at ps key)) (value_at ps key) (cond b (Some p.value) None)) e ∙ chosen (value_at ps key))
 
 -- the map and one pair more
 pub Holds-inserted : (words new : List ℕ) (held : Held) (h : Holds words held) (p : Pair) → Lays new (h.pairs ++ p ∷ []) → map.get held.map p.key ≡ None → Holds new (with_pair held p.key p.value)
 Holds-inserted words new held h p lays none = record {
-    pairs = h.pairs ++ p ∷ [];
-    lays = lays;
-    values = insert-append held.map h.pairs p h.values none;
-    count = map.len-insert key_cmp_total held.map p.key p.value ∙ ap (λ (o : Option (List ℕ)). cond (is_some o) (map.len held.map) (map.len held.map + 1)) none ∙ omega (arith, h.count, more);
-    next = omega (arith, h.next, next_after-append 47 h.pairs p);
-    changes = omega (arith, h.changes, more);
-  }
+  pairs = h.pairs ++ p ∷ [];
+  lays = lays;
+  values = insert-append held.map h.pairs p h.values none;
+  count = map.len-insert key_cmp_total held.map p.key p.value ∙ ap (λ (o : Option (List ℕ)). cond (is_some o) (map.len held.map) (map.len held.map + 1)) none ∙ omega (arith, h.count, more);
+  next = omega (arith, h.next, next_after-append 47 h.pairs p);
+  changes = omega (arith, h.changes, more);
+}
   where
     more : length (h.pairs ++ p ∷ []) ≡ length h.pairs + 1
     more = length-append h.pairs (p ∷ [])

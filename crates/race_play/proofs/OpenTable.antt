@@ -1,5 +1,5 @@
 -- The opening words of a memory of one table hold nothing.
-use Rattle.std.proofs.Common.{◌≡◌, ◌≢◌, ℕ, ◌+◌, ◌*◌, ◌/◌, ◌%◌, ◌^◌, ◌<◌, ◌≤◌, List, [], length, get_or, refl, sym, ap, ◌∙◌, subst, arith}
+use Rattle.std.proofs.Common.{◌≡◌, ℕ, ◌+◌, ◌*◌, ◌/◌, ◌%◌, ◌^◌, ◌<◌, ◌≤◌, List, [], length, get_or, refl, sym, ap, ◌∙◌, subst, arith}
 use Rattle.std.specs.FinMap as map
 use Rattle.kv_block.specs.Bytes.{key_cmp}
 use Rattle.node_words.specs.declared.geometry.Geometry.{Geometry}
@@ -8,7 +8,7 @@ use Rattle.node_words.specs.Limits.{words_needed}
 use Rattle.node_words.specs.Opening.{opening_word}
 use Rattle.node_words.proofs.FirstTables.{first_table-0}
 use Rattle.node_words.proofs.OpeningWords.{opening_next-0, opening_slot}
-use Rattle.race_play.specs.Layout.{IsOneTable, Lays, slot_address}
+use Rattle.race_play.specs.Layout.{IsOneTable, slot_address}
 use Rattle.race_play.specs.Holding.{Holds}
 use Rattle.race_play.specs.Replies.{opened}
 
@@ -32,20 +32,20 @@ slot-one g h k b =
 
 pub opened-holds : (g : Geometry) (words : List ℕ) → IsOneTable g → length words ≡ g.words → g.words ≤ 2 ^ 24 → 47 ≤ g.words → ((a : ℕ) → a < g.words → get_or words a 0 ≡ opening_word g a) → Holds words opened
 opened-holds g words h long small enough same = record {
-    pairs = [];
-    lays = record {
-      small = omega (arith, long, small);
-      next = same 0 (omega (arith, enough)) ∙ opening_next-0 g ∙ first_free-one g h;
-      room = omega (arith, long, enough);
-      few = omega arith;
-      seats = tt;
-      free = λ k l b. same (slot_address k) (omega (arith, b, enough)) ∙ slot-one g h k b;
-    };
-    values = λ key. map.get-empty key_cmp key;
-    count = map.len-empty key_cmp (List ℕ);
-    next = refl;
-    changes = refl;
-  }
+  pairs = [];
+  lays = record {
+    small = omega (arith, long, small);
+    next = same 0 (omega (arith, enough)) ∙ opening_next-0 g ∙ first_free-one g h;
+    room = omega (arith, long, enough);
+    few = omega arith;
+    seats = tt;
+    free = λ k l b. same (slot_address k) (omega (arith, b, enough)) ∙ slot-one g h k b;
+  };
+  values = λ key. map.get-empty key_cmp key;
+  count = map.len-empty key_cmp (List ℕ);
+  next = refl;
+  changes = refl;
+}
 
 -- there are words enough for the table
 pub enough-one : (g : Geometry) → IsOneTable g → words_needed g.groups g.max_depth g.first_depth g.nodes ≤ g.words → 47 ≤ g.words

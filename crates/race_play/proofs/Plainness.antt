@@ -1,7 +1,7 @@
 -- What it means that a script is of this form.
-use Rattle.std.proofs.Common.{◌≡◌, ℕ, ◌≤◌, ◌==◌, nat_lt, ◌&&◌, Bool, true, false, cond, List, [], ◌∷◌, length, Option, Some, None, refl, sym, ap, ◌∙◌, arith, Result, Ok, Err}
+use Rattle.std.proofs.Common.{◌≡◌, ℕ, ◌≤◌, nat_lt, Bool, true, false, cond, List, length, Some, None, refl, ap, ◌∙◌, arith, Result, Ok, Err}
 use Rattle.std.proofs.lemmas.Bool.Decides.{nat_tests}
-use Rattle.trace_script.specs.Content.{Content, ScriptValue, stop_at, calls_at}
+use Rattle.trace_script.specs.Content.{ScriptValue, calls_at}
 use Rattle.trace_script.specs.Rules.{Told, Refusal, script_of}
 use Rattle.trace_script.specs.Gives.{told_of}
 use Rattle.race_play.specs.Layout.{IsOneTable}
@@ -15,10 +15,10 @@ pub record Parts (script : ScriptValue) : Type 0 where
 
 pub plain_parts : (script : ScriptValue) → is_plain (told_of script) ≡ true → Parts script
 plain_parts script e = record {
-    table = record { groups = grind (arith, nat_tests); max_depth = grind (arith, nat_tests); first_depth = grind (arith, nat_tests); nodes = grind (arith, nat_tests) };
-    client = grind (arith, nat_tests);
-    few = grind (arith, nat_tests);
-  }
+  table = record { groups = grind (arith, nat_tests); max_depth = grind (arith, nat_tests); first_depth = grind (arith, nat_tests); nodes = grind (arith, nat_tests) };
+  client = grind (arith, nat_tests);
+  few = grind (arith, nat_tests);
+}
 
 -- what was read is a script of this form, or none
 pub plain-some : (bytes : List ℕ) (told : Told) → script_of bytes ≡ Ok told → is_plain told ≡ true → plain_script bytes ≡ Some told

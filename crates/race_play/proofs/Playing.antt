@@ -1,5 +1,5 @@
 -- One call more.
-use Rattle.std.proofs.Common.{◌≡◌, ℕ, zero, suc, ◌+◌, ◌<◌, ◌≤◌, Bool, true, false, cond, List, [], ◌∷◌, ◌++◌, length, take, get_or, Option, Some, None, refl, sym, ap, ◌∙◌, subst, arith, ◌||◌, map as map_list}
+use Rattle.std.proofs.Common.{◌≡◌, ℕ, zero, suc, ◌+◌, ◌<◌, ◌≤◌, Bool, true, false, cond, List, [], ◌∷◌, ◌++◌, length, take, get_or, Option, Some, None, refl, sym, ap, ◌∙◌, subst, arith, map as map_list}
 use Rattle.std.specs.FinMap as map
 use Rattle.std.specs.List.{All}
 use Rattle.std.specs.Prelude.{IsTrue, IfOk, Result, Ok, Err}
@@ -8,7 +8,7 @@ use Rattle.kv_block.proofs.Keys.{key_eq-is, key_eq-same}
 use Rattle.trace_script.specs.Content.{Content, calls_at}
 use Rattle.trace_script.specs.Report.{IsOfCall}
 use Rattle.std.proofs.lemmas.List.{take_more, length-take-le}
-use Rattle.map_model.specs.Machine.{is_change, is_quiet, search_reply}
+use Rattle.map_model.specs.Machine.{is_change, search_reply}
 use Rattle.map_model.specs.declared.calls.Call.{Call}
 use Rattle.map_model.specs.declared.calls.Call.TheVariants.{Insert, Search, Update, Delete, Resize}
 use Rattle.map_model.specs.declared.calls.Reply.{Reply}
@@ -27,8 +27,8 @@ pub lines_from-append : (words number : ℕ) (held : Held) (calls : List Call) (
 lines_from-append words number held [] call = ap (λ (n : ℕ). line_of n held (reply_to words held call) ∷ []) (omega arith)
 lines_from-append words number held (first ∷ calls) call =
     ap (λ (ls : List Line). line_of number held (reply_to words held first) ∷ ls)
-      (lines_from-append words (number + 1) (held_after held first (reply_to words held first)) calls call
-      ∙ ap (λ (n : ℕ). lines_from words (number + 1) (held_after held first (reply_to words held first)) calls ++ line_of n (held_by words held (first ∷ calls)) (reply_to words (held_by words held (first ∷ calls)) call) ∷ []) (omega arith))
+    (lines_from-append words (number + 1) (held_after held first (reply_to words held first)) calls call
+    ∙ ap (λ (n : ℕ). lines_from words (number + 1) (held_after held first (reply_to words held first)) calls ++ line_of n (held_by words held (first ∷ calls)) (reply_to words (held_by words held (first ∷ calls)) call) ∷ []) (omega arith))
 
 -- the calls so far and the next one
 pub next_calls : (items : List Call) (i : ℕ) (call : Call) → i < length items → call ≡ get_or items i call → take (i + 1) items ≡ take i items ++ call ∷ []
@@ -74,7 +74,7 @@ lines-next words items i call reply tag lines more h at e r t pushed =
     let prior = held_by words opened (take i items) in
     let count : 1 + length (take i items) ≡ i + 1 = let l = length-take-le i items (omega arith) in omega (arith, l) in
     let line : line_from (i + 1) reply tag ≡ line_of (1 + length (take i items)) prior (reply_to words prior call) =
-      λ j. line_from (sym count j) (r j) ((t ∙ ap (tag_of prior) r) j) in
+    λ j. line_from (sym count j) (r j) ((t ∙ ap (tag_of prior) r) j) in
     pushed ∙ (λ j. e j ++ line j ∷ []) ∙ sym (ap (lines_from words 1 opened) (next_calls items i call h at) ∙ lines_from-append words 1 opened (take i items) call)
 
 -- the count of changes, where the reply is that of a change and where it is not
@@ -99,6 +99,7 @@ lines-of_calls words n held (call ∷ calls) = with_first _ _ (refl, omega arith
   where
     later : (line : Line) → (line.client ≡ 0) × (n + 1 ≤ line.number) × (line.number < n + 1 + length calls) → (line.client ≡ 0) × (n ≤ line.number) × (line.number < n + length (call ∷ calls))
     later line h = let low = h.1 in let high = h.2 in (h.0, omega arith, omega (arith, high))
+
     with_first : (line : Line) (lines : List Line) → (line.client ≡ 0) × (n ≤ line.number) × (line.number < n + length (call ∷ calls)) → All (λ (l : Line). (l.client ≡ 0) × (n ≤ l.number) × (l.number < n + length (call ∷ calls))) lines → All (λ (l : Line). (l.client ≡ 0) × (n ≤ l.number) × (l.number < n + length (call ∷ calls))) (line ∷ lines)
     with_first line lines h hs zero d l = h
     with_first line lines h hs (suc k) d l = hs k d (omega arith)
@@ -110,17 +111,18 @@ lines-of_script content words held one = λ k d l.
   where
     of_call : (line : Line) → (line.client ≡ 0) × (1 ≤ line.number) × (line.number < 1 + length (calls_at content 0)) → IsOfCall content line
     of_call line h = let client = h.0 in let high = h.2 in record {
-        client = omega (arith, client, one);
-        least = h.1;
-        most = subst (λ (n : ℕ). line.number ≤ length (calls_at content n)) (sym client) (omega (arith, high));
-      }
+      client = omega (arith, client, one);
+      least = h.1;
+      most = subst (λ (n : ℕ). line.number ≤ length (calls_at content n)) (sym client) (omega (arith, high));
+    }
 
 -- the one item of a list is this text, by its test
 pub one-word : {X : Type 0} (f : X → List ℕ) (xs : List X) (d : X) (text : List ℕ) (b : Bool) → 1 ≤ length xs → length xs < 2 → b ≡ key_eq (f (get_or xs 0 d)) text → (IsTrue b → map_list f xs ≡ text ∷ []) × (map_list f xs ≡ text ∷ [] → IsTrue b)
 one-word f xs d text b h k e =
-    let one : map_list f xs ≡ f (get_or xs 0 d) ∷ [] = map-one f xs d h (omega arith) in
-    ((λ t. one ∙ ap (λ (w : List ℕ). w ∷ []) (key_eq-is (f (get_or xs 0 d)) text (sym e ∙ t))),
-     (λ m. e ∙ ap (λ (w : List ℕ). key_eq w text) (ap first_word_of (sym one ∙ m)) ∙ key_eq-same text))
+    let one : map_list f xs ≡ f (get_or xs 0 d) ∷ [] = map-one f xs d h (omega arith) in (
+      (λ t. one ∙ ap (λ (w : List ℕ). w ∷ []) (key_eq-is (f (get_or xs 0 d)) text (sym e ∙ t))),
+      (λ m. e ∙ ap (λ (w : List ℕ). key_eq w text) (ap first_word_of (sym one ∙ m)) ∙ key_eq-same text),
+    )
   where
     first_word_of : List (List ℕ) → List ℕ
     first_word_of [] = []

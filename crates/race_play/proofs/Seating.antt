@@ -1,5 +1,5 @@
 -- What the slots of a table tell of the pairs that its words hold, and how a pair is added.
-use Rattle.std.proofs.Common.{◌≡◌, ◌≢◌, ℕ, zero, suc, ◌+◌, ◌-◌, ◌*◌, ◌/◌, ◌%◌, ◌^◌, ◌<◌, ◌≤◌, Bool, true, false, cond, List, [], ◌∷◌, ◌++◌, length, take, drop, get_or, Option, Some, None, ◌⊎◌, inl, inr, refl, sym, ap, ◌∙◌, subst, arith, length-append, add-one, ◌==◌, unwrap_or, is_some, not}
+use Rattle.std.proofs.Common.{◌≡◌, ◌≢◌, ℕ, zero, suc, ◌+◌, ◌<◌, ◌≤◌, Bool, true, false, cond, List, [], ◌∷◌, ◌++◌, length, drop, get_or, Option, Some, None, ◌⊎◌, inl, inr, refl, sym, ap, ◌∙◌, subst, arith, length-append, add-one, ◌==◌, unwrap_or, is_some, not}
 use Rattle.std.proofs.lemmas.Bool.{cases_lt}
 use Rattle.std.proofs.lemmas.Bool.Decides.{nat_tests}
 use Rattle.std.proofs.lemmas.List.{ext_get_or}
@@ -7,7 +7,7 @@ use Rattle.std.proofs.lemmas.List.Edits.{get_or-between, length-between}
 use Rattle.std.specs.List.{between}
 use Rattle.kv_block.specs.Bytes.{key_eq}
 use Rattle.kv_block.specs.Packing.{Pair, IsPair, pair_of, packed, unpacked}
-use Rattle.kv_block.proofs.Packed.{unpacked-packed, packed_least, packed_most}
+use Rattle.kv_block.proofs.Packed.{unpacked-packed}
 use Rattle.kv_block.proofs.Keys.{key_eq-is}
 use Rattle.slot_word.specs.declared.slots.Slot.{Slot}
 use Rattle.slot_word.specs.Slots.{IsSlot, slot_word, slot_of}
@@ -44,8 +44,8 @@ seat_of words (p ∷ ps) k at s zero slot e =
     inr (record { at = at; pair = p; seated = subst (λ (n : ℕ). IsSeated words n at p) (sym it) s.0; from = omega arith; to = next_after-from (at + need p) ps; front = refl })
 seat_of words (p ∷ ps) k at s (suc j) slot e =
     elim (seat_of words ps (k + 1) (at + need p) s.1 j slot (omega arith)) [
-      inl h ↦ (let past = h.0 in inl (omega arith, h.1))
-    | inr r ↦ (let from = r.from in inr (record { at = r.at; pair = r.pair; seated = r.seated; from = omega arith; to = r.to; front = r.front }))
+      | inl h ↦ (let past = h.0 in inl (omega arith, h.1))
+      | inr r ↦ (let from = r.from in inr (record { at = r.at; pair = r.pair; seated = r.seated; from = omega arith; to = r.to; front = r.front }))
     ]
 
 -- what slot k says of the pair at place k
@@ -79,17 +79,17 @@ some_none e = cc
 pub tells_some : (words : List ℕ) (pairs : List Pair) → Lays words pairs → (k : ℕ) → k < 21 → (slot : Slot) → slot_of (get_or words (slot_address k) 0) ≡ Some slot → Tells words pairs k slot
 tells_some words pairs h k b slot e =
     elim (seat_of words pairs 0 47 h.seats k k (omega arith)) [
-      inl past ↦ (absurd (some_none (sym e ∙ ap slot_of (h.free k past.0 b) ∙ slot_of-zero)))
-    | inr r ↦ (let own : slot_of (get_or words (slot_address k) 0) ≡ Some (live_slot r.pair r.at) = ap slot_of r.seated.slot ∙ slot_of-slot_word (live_slot r.pair r.at) r.seated.fits in
-        subst (λ (s : Slot). Tells words pairs k s) (some_same (sym own ∙ e)) (seated_tells words pairs k 47 (next_after 47 pairs) r h.room))
+      | inl past ↦ (absurd (some_none (sym e ∙ ap slot_of (h.free k past.0 b) ∙ slot_of-zero)))
+      | inr r ↦ (let own : slot_of (get_or words (slot_address k) 0) ≡ Some (live_slot r.pair r.at) = ap slot_of r.seated.slot ∙ slot_of-slot_word (live_slot r.pair r.at) r.seated.fits in
+          subst (λ (s : Slot). Tells words pairs k s) (some_same (sym own ∙ e)) (seated_tells words pairs k 47 (next_after 47 pairs) r h.room))
     ]
 
 -- a slot word that reads as no slot is behind the pairs
 pub tells_none : (words : List ℕ) (pairs : List Pair) → Lays words pairs → (k : ℕ) → k < 21 → slot_of (get_or words (slot_address k) 0) ≡ None → (length pairs ≤ k) × (drop k pairs ≡ [])
 tells_none words pairs h k b e =
     elim (seat_of words pairs 0 47 h.seats k k (omega arith)) [
-      inl past ↦ past
-    | inr r ↦ (absurd (some_none (sym (ap slot_of r.seated.slot ∙ slot_of-slot_word (live_slot r.pair r.at) r.seated.fits) ∙ e)))
+      | inl past ↦ past
+      | inr r ↦ (absurd (some_none (sym (ap slot_of r.seated.slot ∙ slot_of-slot_word (live_slot r.pair r.at) r.seated.fits) ∙ e)))
     ]
 
 -- past the pairs no pair has the key
@@ -161,6 +161,7 @@ place_within words pairs k slot t = by (cases_lt k (length pairs))
   where
     nothing : (p : Pair) (ps : List Pair) → p ∷ ps ≡ [] → ⊥
     nothing p ps e = cc
+
     by : ((k < length pairs) ⊎ (length pairs ≤ k)) → k < length pairs
     by (inl h) = h
     by (inr h) = absurd (nothing t.pair (drop (suc k) pairs) (sym t.front ∙ drop-few pairs k h))
@@ -210,14 +211,15 @@ Seats-kept : (words new : List ℕ) (k at : ℕ) (ps : List Pair) → Seats word
     → Seats new k at ps
 Seats-kept words new k at [] s slots blocks = tt
 Seats-kept words new k at (p ∷ ps) s slots blocks =
-    let behind = next_after-from (at + need p) ps in
-    (record {
-      pair = s.0.pair;
-      fits = s.0.fits;
-      slot = slots k (omega arith) (omega arith) ∙ s.0.slot;
-      block = λ i h. blocks (at + i) (omega arith) (omega (arith, behind, h)) ∙ s.0.block i h;
-    },
-    Seats-kept words new (k + 1) (at + need p) ps s.1 (λ j low high. slots j (omega arith) (omega (arith, high))) (λ i low high. blocks i (omega arith) high))
+    let behind = next_after-from (at + need p) ps in (
+      record {
+        pair = s.0.pair;
+        fits = s.0.fits;
+        slot = slots k (omega arith) (omega arith) ∙ s.0.slot;
+        block = λ i h. blocks (at + i) (omega arith) (omega (arith, behind, h)) ∙ s.0.block i h;
+      },
+      Seats-kept words new (k + 1) (at + need p) ps s.1 (λ j low high. slots j (omega arith) (omega (arith, high))) (λ i low high. blocks i (omega arith) high),
+    )
 
 -- one pair more, behind the others
 Seats-append : (words : List ℕ) (k at slot from : ℕ) (ps : List Pair) (p : Pair) → Seats words k at ps → slot ≡ k + length ps → from ≡ next_after at ps → IsSeated words slot from p → Seats words k at (ps ++ p ∷ [])
@@ -242,11 +244,11 @@ Lays-extended words new pairs p from h few pair fits next room long new_next new
     let count = length-append pairs (p ∷ []) in
     let small = h.small in
     let other : (j : ℕ) → j < 21 → j ≢ length pairs → get_or new (slot_address j) 0 ≡ get_or words (slot_address j) 0 =
-      λ j b apart. kept (slot_address j) (let high = slot_address-high j b in omega (arith, high, low, from_is)) (let l = slot_address-low j in omega (arith, l)) (slots_apart j (length pairs) apart) in
+    λ j b apart. kept (slot_address j) (let high = slot_address-high j b in omega (arith, high, low, from_is)) (let l = slot_address-low j in omega (arith, l)) (slots_apart j (length pairs) apart) in
     let seats : Seats new 0 47 pairs =
-      Seats-kept words new 0 47 pairs h.seats
-        (λ j l u. other j (omega (arith, u, few)) (omega (arith, u)))
-        (λ i l u. kept i (omega (arith, u, from_is)) (omega (arith, l)) (let high = slot_address-high (length pairs) few in omega (arith, high, l))) in
+    Seats-kept words new 0 47 pairs h.seats
+    (λ j l u. other j (omega (arith, u, few)) (omega (arith, u)))
+    (λ i l u. kept i (omega (arith, u, from_is)) (omega (arith, l)) (let high = slot_address-high (length pairs) few in omega (arith, high, l))) in
     record {
       small = omega (arith, small, long);
       next = new_next ∙ omega (arith, from_is, behind);

@@ -6,7 +6,7 @@ use Rattle.map_model.specs.Machine.{is_change, is_quiet}
 use Rattle.map_model.specs.declared.calls.Call.{Call}
 use Rattle.map_model.specs.declared.calls.Call.TheVariants.{Insert, Search, Update, Delete, Resize}
 use Rattle.map_model.specs.declared.calls.Reply.{Reply}
-use Rattle.trace_script.specs.Content.{Content, ScriptValue, stop_at, calls_at}
+use Rattle.trace_script.specs.Content.{ScriptValue, stop_at, calls_at}
 use Rattle.trace_script.specs.Rules.{Told, Refusal, script_of}
 use Rattle.trace_script.specs.Gives.{told_of}
 use Rattle.trace_script.specs.Report.{report}

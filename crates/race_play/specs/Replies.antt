@@ -1,14 +1,14 @@
 -- What the calls of one client are answered, one after the other: a map, the next free word and a count of changes
 -- say it all.
-use Rattle.std.specs.Prelude.{◌≡◌, ℕ, ◌+◌, ◌==◌, nat_lt, List, [], ◌∷◌, length, Option, Some, None, if◌then◌else◌}
+use Rattle.std.specs.Prelude.{ℕ, ◌+◌, ◌==◌, nat_lt, List, [], ◌∷◌, length, Option, Some, None, if◌then◌else◌}
 use Rattle.std.specs.FinMap as map
 use Rattle.kv_block.specs.Packing.{packed}
 use Rattle.map_model.specs.Contents.{Contents}
-use Rattle.map_model.specs.Machine.{search_reply, is_change, is_quiet}
+use Rattle.map_model.specs.Machine.{search_reply, is_change}
 use Rattle.map_model.specs.declared.calls.Call.{Call}
 use Rattle.map_model.specs.declared.calls.Call.TheVariants.{Insert, Search, Update, Delete, Resize}
 use Rattle.map_model.specs.declared.calls.Reply.{Reply}
-use Rattle.map_model.specs.declared.calls.Reply.TheVariants.{Found, Missing, Inserted, Exists, FullDepth, NoBlock}
+use Rattle.map_model.specs.declared.calls.Reply.TheVariants.{Missing, Inserted, Exists, FullDepth, NoBlock}
 
 -- what the calls so far have left: the map, the next free word, and how many changes there were
 pub record Held : Type 0 where

@@ -7,6 +7,8 @@
 
 mod player;
 mod table;
+#[cfg(test)]
+mod tests;
 mod top;
 
 pub use top::{Ended, race};

@@ -92,10 +92,7 @@ fn play(alloc: Global, table: &mut Table, calls: &Calls) -> Result<Lines, AllocE
 fn are_plain(calls: &Calls) -> bool
     ensures { result ≡ list_all is_plain_call calls.now.items }
 {
-    calls
-        .as_slice()
-        .iter()
-        .all(|call| matches!(call, Call::Insert { .. } | Call::Search { .. }))
+    calls.as_slice().iter().all(|call| matches!(call, Call::Insert { .. } | Call::Search { .. }))
 }
 
 // Whether a script is of this form.

@@ -1,10 +1,8 @@
-use Rattle.std.proofs.Common.{◌≡◌, ◌≤◌, ◌+◌, ℕ, ◌∷◌, ◌++◌, [], List, length, take, cond, sym, ◌∙◌, ap, subst, arith}
+use Rattle.std.proofs.Common.{◌≡◌, ◌+◌, ℕ, length, take, cond, sym, ◌∙◌, ap, subst, arith}
 use Rattle.map_model.specs.Machine.{is_change}
-use Rattle.map_model.specs.declared.calls.Reply.{Reply}
 use Rattle.race_play.specs.Holding.{Holds}
 use Rattle.race_play.specs.Replies.{Held, opened, reply_to, held_after}
 use Rattle.race_play.specs.Plays.{held_by}
-use Rattle.race_play.proofs.Holdings.{table_of}
 use Rattle.race_play.proofs.Playing.{next_calls, held_by-append, changes-after, lines-next, counted-more, counted-same}
 use Rattle.race_play.proofs.player.play.Goals as goal
 use Rattle.race_play.proofs.player.play.Goals.{then-is_change, else-is_change}
@@ -19,22 +17,22 @@ loop-index-preserved c =
     let prior = held_by n opened (take i items) in
     let taken = next_calls items i call c.loop-index-test.true c.index-items-index.is in
     let after_is : held_by n opened (take (i + 1) items) ≡ held_after prior call (reply_to n prior call) =
-      ap (held_by n opened) taken ∙ held_by-append n opened (take i items) call in
+    ap (held_by n opened) taken ∙ held_by-append n opened (take i items) call in
     let reply_is : c.answer-reply.result ≡ reply_to n prior call =
-      c.answer-reply.ensures.reply prior inv.holds ∙ ap (λ (m : ℕ). reply_to m prior call) inv.long in
+    c.answer-reply.ensures.reply prior inv.holds ∙ ap (λ (m : ℕ). reply_to m prior call) inv.long in
     let left : held_after prior call c.answer-reply.result ≡ held_by n opened (take (i + 1) items) =
-      ap (held_after prior call) reply_is ∙ sym after_is in
+    ap (held_after prior call) reply_is ∙ sym after_is in
     let step : (held_by n opened (take (i + 1) items)).changes ≡ c.loop-index.changes + cond (is_change c.answer-reply.result) 1 0 =
-      ap (λ (h : Held). h.changes) after_is ∙ changes-after n prior call ∙ (λ j. sym inv.changes j + cond (is_change (sym reply_is j)) 1 0) in
+    ap (λ (h : Held). h.changes) after_is ∙ changes-after n prior call ∙ (λ j. sym inv.changes j + cond (is_change (sym reply_is j)) 1 0) in
     let few = inv.few in
     record {
       long = c.answer-reply.ensures.long ∙ inv.long;
       holds = subst (λ (h : Held). Holds c.answer-reply.new.self h) left (c.answer-reply.ensures.held prior inv.holds);
       changes = elim c.if-is_change.branch [
-          then-is_change w ↦ counted-more _ _ _ _ (sym c.is_change.ensures ∙ w.if-is_change.true) w.changes-is step
+        | then-is_change w ↦ counted-more _ _ _ _ (sym c.is_change.ensures ∙ w.if-is_change.true) w.changes-is step
         | else-is_change w ↦ counted-same _ _ _ _ (sym c.is_change.ensures ∙ w.if-is_change.false) w.changes-is step
-        ];
+      ];
       few = elim c.if-is_change.branch [ then-is_change w ↦ omega (arith, few) | else-is_change w ↦ omega (arith, few) ];
       lines = lines-next n items i call c.answer-reply.result c.tag_of.result _ _ c.loop-index-test.true c.index-items-index.is inv.lines reply_is
-        (c.tag_of.ensures prior (sym inv.changes)) c.in_ok-push.ensures.appended;
+          (c.tag_of.ensures prior (sym inv.changes)) c.in_ok-push.ensures.appended;
     }

@@ -1,4 +1,4 @@
-use Rattle.std.proofs.Common.{◌≡◌, true, sym, ◌∙◌, rules}
+use Rattle.std.proofs.Common.{◌≡◌, true, rules}
 use Rattle.trace_script.specs.Gives.{told_of}
 use Rattle.race_play.specs.Plays.{is_plain}
 use Rattle.race_play.proofs.Plainness.{plain-some}

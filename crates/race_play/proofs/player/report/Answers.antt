@@ -1,4 +1,4 @@
-use Rattle.std.proofs.Common.{◌≡◌, ◌<◌, ◌∷◌, [], ℕ, List, length, sym, ◌∙◌, ap, subst, arith}
+use Rattle.std.proofs.Common.{◌≡◌, ◌∷◌, [], ℕ, List, length, sym, ◌∙◌, ap, subst, arith}
 use Rattle.std.specs.FinMap as map
 use Rattle.std.specs.List.{All}
 use Rattle.map_model.specs.declared.calls.Call.{Call}
@@ -7,9 +7,8 @@ use Rattle.trace_script.specs.Report.{report, IsOfCall}
 use Rattle.trace_script.specs.declared.report.Line.{Line}
 use Rattle.trace_script.specs.declared.report.Mode.TheVariants.{Replay}
 use Rattle.node_words.specs.declared.geometry.Geometry.{Geometry}
-use Rattle.race_play.specs.Replies.{Held, opened}
-use Rattle.race_play.specs.Plays.{held_by, lines_from, replayed}
-use Rattle.race_play.proofs.Holdings.{table_of}
+use Rattle.race_play.specs.Replies.{opened}
+use Rattle.race_play.specs.Plays.{held_by, lines_from}
 use Rattle.race_play.proofs.Plainness.{plain_parts}
 use Rattle.race_play.proofs.Playing.{lines-of_script, if-ok}
 use Rattle.race_play.proofs.Seating.{long_enough}
@@ -22,9 +21,9 @@ pub report_text-requires : goal.report_text-requires
 report_text-requires c =
     let content = c.args.script.now.content in
     let lines_are : c.in_ok-lines.lines.items ≡ lines_from (length c.in_ok-table.table) 1 opened (calls_at content 0) =
-      c.in_ok-lines.ensures.lines ∙ ap (lines_from (length c.in_ok-table.table) 1 opened) c.calls.ensures in
+    c.in_ok-lines.ensures.lines ∙ ap (lines_from (length c.in_ok-table.table) 1 opened) c.calls.ensures in
     subst (λ (lines : List Line). All (λ (line : Line). IsOfCall content line) lines) (sym lines_are)
-      (lines-of_script content (length c.in_ok-table.table) opened (plain_parts c.args.script.now c.requires).client)
+    (lines-of_script content (length c.in_ok-table.table) opened (plain_parts c.args.script.now c.requires).client)
 
 pub returns : goal.returns
 returns c =
@@ -38,5 +37,5 @@ returns c =
     let next_is : c.one-next.result ≡ held.next ∷ [] = c.one-next.ensures ∙ ap (λ (m : ℕ). m ∷ []) (c.next.ensures ∙ holds.lays.next ∙ sym holds.next) in
     let words_are : n ≡ script.geometry.words = c.in_ok-table.ensures.long ∙ ap (λ (g : Geometry). g.words) c.geometry.ensures in
     if-ok _ _ c.report_text.result
-      (λ text e. e ∙ (λ j. report Replay script (c.in_ok-lines.ensures.lines j) (map.entries (map_is j)) (next_is j)) ∙ (λ j. told (words_are j) (c.calls.ensures j)))
-      c.report_text.ensures
+    (λ text e. e ∙ (λ j. report Replay script (c.in_ok-lines.ensures.lines j) (map.entries (map_is j)) (next_is j)) ∙ (λ j. told (words_are j) (c.calls.ensures j)))
+    c.report_text.ensures

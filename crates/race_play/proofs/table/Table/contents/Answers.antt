@@ -1,10 +1,7 @@
-use Rattle.std.proofs.Common.{◌∙◌, sym, ap, List}
-use Rattle.std.specs.Option.{option_map}
+use Rattle.std.proofs.Common.{◌∙◌, ap}
 use Rattle.std.specs.FinMap as map
 use Rattle.kv_block.specs.Bytes.{key_cmp}
-use Rattle.kv_block.specs.Packing.{Pair, pair_of}
 use Rattle.map_model.specs.Contents.{Contents}
-use Rattle.race_play.specs.Layout.{value_at}
 use Rattle.race_play.proofs.Gathering.{gather-next, gather-none, all_gathered}
 use Rattle.race_play.proofs.table.Table.contents.Goals as goal
 use Rattle.race_play.proofs.table.Table.contents.Goals.{in-Some+in_ok-step, in_default}
@@ -15,8 +12,8 @@ loop-index-init c = λ pairs h key. ap (λ (m : Contents). map.get m key) c.new-
 pub loop-index-preserved : goal.loop-index-preserved
 loop-index-preserved c = λ pairs h key.
     elim c.match-pair_in.branch [
-      in-Some+in_ok-step w ↦ gather-next pairs c.loop-index.index _ c.loop-index.map _ _ (w.in-Some.ensures pairs h) w.map-is w.in_ok-step.ensures.ok (c.loop-index.invariant pairs h) key
-    | in_default w ↦ gather-none pairs c.loop-index.index c.loop-index.map _ (w.in_default.ensures pairs h) w.map-is (c.loop-index.invariant pairs h) key
+      | in-Some+in_ok-step w ↦ gather-next pairs c.loop-index.index _ c.loop-index.map _ _ (w.in-Some.ensures pairs h) w.map-is w.in_ok-step.ensures.ok (c.loop-index.invariant pairs h) key
+      | in_default w ↦ gather-none pairs c.loop-index.index c.loop-index.map _ (w.in_default.ensures pairs h) w.map-is (c.loop-index.invariant pairs h) key
     ]
 
 pub returns : goal.returns

@@ -1,4 +1,4 @@
-use Rattle.std.proofs.Common.{◌∙◌, ◌≤◌, ℕ, length, sym, ap, arith, List}
+use Rattle.std.proofs.Common.{◌∙◌, ◌≤◌, length, sym, ap, arith, List}
 use Rattle.kv_block.specs.Packing.{Pair}
 use Rattle.race_play.specs.Layout.{value_at}
 use Rattle.race_play.proofs.Seating.{value_at-there, value_at-behind, drop-few}

@@ -1,4 +1,4 @@
-use Rattle.std.proofs.Common.{◌≡◌, ℕ, ◌+◌, ◌≤◌, List, length, arith}
+use Rattle.std.proofs.Common.{length, arith}
 use Rattle.kv_block.specs.Packing.{Pair}
 use Rattle.race_play.proofs.Holdings.{Holds-inserted}
 use Rattle.race_play.proofs.Seating.{long_enough, next_after-from, vacant_place}

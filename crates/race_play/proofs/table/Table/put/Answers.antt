@@ -1,4 +1,4 @@
-use Rattle.std.proofs.Common.{◌≡◌, ◌≢◌, ℕ, ◌+◌, ◌<◌, ◌≤◌, ◌^◌, List, ◌++◌, ◌∷◌, [], length, drop, get_or, sym, ◌∙◌, ap, subst, arith, rules, Fits}
+use Rattle.std.proofs.Common.{◌≡◌, ℕ, ◌+◌, ◌<◌, ◌≤◌, ◌^◌, List, ◌++◌, ◌∷◌, [], length, drop, get_or, sym, ◌∙◌, ap, subst, arith, rules}
 use Rattle.std.proofs.lemmas.List.{take_at, get_or_default}
 use Rattle.kv_block.specs.Packing.{packed}
 use Rattle.kv_block.proofs.Packed.{packed_most}
@@ -32,11 +32,11 @@ returns-clause-laid c = λ pairs pair h place own words print.
     let most = packed_most pair own in
     let byte = c.ranges.print.fits in
     let fits : IsSlot (live_slot pair from) = record {
-        low = omega (arith, low);
-        high = omega (arith, room, h.small);
-        print = subst (λ (n : ℕ). n < 2 ^ 8) print (search rules);
-        words = omega (arith, most);
-      } in
+      low = omega (arith, low);
+      high = omega (arith, room, h.small);
+      print = subst (λ (n : ℕ). n < 2 ^ 8) print (search rules);
+      words = omega (arith, most);
+    } in
     let long : length new ≡ length old = c.publish.auto.words ∙ ap (λ (ws : List ℕ). length ws) slice_is in
     let items = c.self.inside.words.items in
     let some : 0 < length items = subst (λ (ws : List ℕ). 0 < length ws) (sym c.self.view_is) (omega (arith, low, room)) in
@@ -44,11 +44,11 @@ returns-clause-laid c = λ pairs pair h place own words print.
     let len_is : c.len.result ≡ need pair = c.len.ensures.value ∙ needed in
     let address_is : c.address_of-address.result ≡ slot_address (length pairs) = c.address_of-address.ensures.value ∙ ap slot_address place in
     let slot_is : get_or new (slot_address (length pairs)) 0 ≡ slot_word (live_slot pair from) =
-      ap (λ (n : ℕ). get_or new n 0) (sym address_is) ∙ c.publish.ensures.slot ∙ c.pack.ensures.word ∙ same_word _ _ _ _ _ _ print len_is at_is in
+    ap (λ (n : ℕ). get_or new n 0) (sym address_is) ∙ c.publish.ensures.slot ∙ c.pack.ensures.word ∙ same_word _ _ _ _ _ _ print len_is at_is in
     let laid = Lays-extended old new pairs pair from h few own fits from_is room long
-        (c.publish.ensures.next ∙ ap (λ (n : ℕ). from + n) count)
-        slot_is
-        (λ i b. c.publish.ensures.block i (omega (arith, b, count)) ∙ ap (λ (ws : List ℕ). get_or ws i 0) block_is)
-        (λ i b some apart. c.publish.ensures.rest i b some (λ e. apart (e ∙ address_is)) ∙ ap (λ (ws : List ℕ). get_or ws i 0) slice_is) in
+    (c.publish.ensures.next ∙ ap (λ (n : ℕ). from + n) count)
+    slot_is
+    (λ i b. c.publish.ensures.block i (omega (arith, b, count)) ∙ ap (λ (ws : List ℕ). get_or ws i 0) block_is)
+    (λ i b some apart. c.publish.ensures.rest i b some (λ e. apart (e ∙ address_is)) ∙ ap (λ (ws : List ℕ). get_or ws i 0) slice_is) in
     let count_is : length new ≡ c.self.inside.words.len = c.publish.auto.words ∙ c.deref_mut.ensures.len in
     subst (λ (ws : List ℕ). Lays ws (pairs ++ pair ∷ [])) (sym (take_at new (drop (length new) items) c.self.inside.words.len count_is)) laid

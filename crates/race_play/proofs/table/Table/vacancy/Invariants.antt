@@ -1,4 +1,4 @@
-use Rattle.std.proofs.Common.{ℕ, ◌≤◌, List, length}
+use Rattle.std.proofs.Common.{◌≤◌, List, length}
 use Rattle.kv_block.specs.Packing.{Pair}
 use Rattle.race_play.specs.Layout.{Lays}
 use Rattle.race_play.proofs.table.Table.vacancy.Given as goal

@@ -1,9 +1,7 @@
-use Rattle.std.proofs.Common.{◌≡◌, ℕ, ◌+◌, ◌≤◌, List, length, Option, Some, None, arith, rules, sym, ◌∙◌, ap, true, false}
-use Rattle.std.proofs.lemmas.Grind.{common_steps}
+use Rattle.std.proofs.Common.{sym, ◌∙◌, ap, true, false}
 use Rattle.std.specs.Option.{option_map}
 use Rattle.kv_block.specs.Bytes.{key_eq}
-use Rattle.kv_block.specs.Packing.{Pair, pair_of}
-use Rattle.race_play.specs.Layout.{Lays}
+use Rattle.kv_block.specs.Packing.{pair_of}
 use Rattle.race_play.proofs.Seating.{long_enough, tells_none, tells_some, there-past, there-other_print, there-read, there-not_none, there-choice}
 use Rattle.race_play.proofs.table.Table.value_in.Goals as goal
 
