@@ -2,3 +2,8 @@ pub mod Decoded
 pub mod Tables
 pub mod Kinds
 pub mod Changes
+pub mod Replay
+pub mod Recorded
+pub mod Links
+pub mod PlainRoles
+pub mod Kept

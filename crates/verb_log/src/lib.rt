@@ -1,9 +1,16 @@
 //! Logs of verbs: what one verb is, the entries that the writes and won swaps of a run leave, the words after
 //! a log, the kind of each entry and the changes of the map that a log makes.
+//!
+//! It stands on `node_words` for the words of a memory and their roles, on `slot_word` for what a slot and a
+//! header pack, and on `kv_block` for blocks and changes. Its rule is written in docs/DEFINITIONS.md, "Logs".
 #![tactic(auto)]
 
 pub mod entry;
 pub mod kind;
+mod links;
+mod log;
+mod role;
 
 pub use entry::{Entry, Verb};
 pub use kind::Kind;
+pub use log::Log;

@@ -1,0 +1,6 @@
+pub mod InOrder
+pub mod Positions
+pub mod Linked
+pub mod Looks
+pub mod FirstTable
+pub mod Indexed
