@@ -6,7 +6,7 @@ use Rattle.std.specs.List.{AllByRecursion, slice_get}
 use Rattle.kv_block.specs.declared.changes.Change.{Change}
 use Rattle.map_model.specs.declared.records.Record.{Record}
 use Rattle.map_model.specs.Machine.{change_of, is_change}
-use Rattle.map_model.specs.History.{is_change_at, is_change_late, told, Matches, AreApart, IsMade, EachPair, Has}
+use Rattle.map_model.specs.History.{is_change_at, is_change_late, told, Matches, AreApart, IsMade, EachPair, Has, IsAnsweredRight, IsFounded, in_order}
 use Rattle.map_model.proofs.Filtered.{weaker, filter_none}
 use Rattle.map_model.proofs.Bridge.{change_at}
 
@@ -79,3 +79,12 @@ matches_any_order C rs own apart each (c ∷ cs) done e =
   where
     e' : C ≡ done ++ c ∷ cs
     e' = sym e
+
+-- the facts of each record and of each change, whatever the order of the records, found a legal history
+pub founded_any_order : (C : List Change) (rs : List Record) → AllByRecursion (IsAnsweredRight C) rs → AllByRecursion (IsMade C) rs → EachPair AreApart rs
+    → ((n : ℕ) → n < length C → (r : Record) × Has rs r × (is_change_at n r ≡ true)) → in_order rs ≡ true → IsFounded C rs
+founded_any_order C rs right own apart each clients = record {
+  right = right;
+  matched = matches_any_order C rs own apart each C [] refl;
+  clients = clients;
+}

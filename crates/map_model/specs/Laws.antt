@@ -8,7 +8,7 @@ use Rattle.map_model.specs.declared.calls.Call.{Call}
 use Rattle.map_model.specs.declared.calls.Reply.{Reply}
 use Rattle.map_model.specs.declared.records.Record.{Record}
 use Rattle.map_model.specs.Machine.{key_of, reply_at, value_after, change_of, is_change}
-use Rattle.map_model.specs.History.{history, is_answer, IsLegal, IsFounded, IsAfter, IsAnsweredRight, Has}
+use Rattle.map_model.specs.History.{history, is_answer, is_change_at, in_order, IsLegal, IsFounded, IsAfter, IsAnsweredRight, IsMade, AreApart, EachPair, Has}
 use Rattle.map_model.specs.Moments.{IsFirst}
 
 -- the calls of one key are those of a cell of one thread that has `value` at first: each call of the key gets the
@@ -66,3 +66,11 @@ ChangeKeepsFounded = (changes : List Change) (change : Change) (records : List R
 abbrev pub PointsStay : Type 0
 PointsStay = (changes more : List Change) (lo : ℕ) (call : Call) (reply : Reply) (point : ℕ)
     → point ≤ length changes → IsFirst changes lo call reply point → IsFirst (changes ++ more) lo call reply point
+
+-- in any order of the clients: where each record is right, each changing record's change is its own, no two have one
+-- point, each change has a record, and each client's records are in order, the facts hold
+abbrev pub AnyOrderIsFounded : Type 0
+AnyOrderIsFounded = (changes : List Change) (records : List Record)
+    → AllByRecursion (IsAnsweredRight changes) records → AllByRecursion (IsMade changes) records → EachPair AreApart records
+    → ((n : ℕ) → n < length changes → (r : Record) × Has records r × (is_change_at n r ≡ true)) → in_order records ≡ true
+    → IsFounded changes records

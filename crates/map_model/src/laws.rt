@@ -1,5 +1,5 @@
 //! The laws of histories: functions that do nothing, whose contracts are the laws.
-ghost use Rattle.map_model.specs.Laws.{EachKeyIsCell, SeenStandsBefore, FoundedIsLegal, NoneIsFounded, QuietKeepsFounded, ChangeKeepsFounded, PointsStay};
+ghost use Rattle.map_model.specs.Laws.{EachKeyIsCell, SeenStandsBefore, FoundedIsLegal, NoneIsFounded, QuietKeepsFounded, ChangeKeepsFounded, AnyOrderIsFounded, PointsStay};
 
 /// In a legal history each key by itself behaves as a cell of one thread that is empty at first: each call of the key
 /// gets the reply that the cell's value gives, and leaves the cell to the next.
@@ -25,6 +25,12 @@ pub fn law_one_more()
     ensures none { NoneIsFounded }
     ensures quiet { QuietKeepsFounded }
     ensures change { ChangeKeepsFounded }
+{}
+
+/// Those facts hold of records in any order of their clients, where each record is right, each changing record's
+/// change is its own, no two have one point, and each change has a record.
+pub fn law_any_order()
+    ensures { AnyOrderIsFounded }
 {}
 
 /// More changes do not move a point that is among those that there were.

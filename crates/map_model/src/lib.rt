@@ -18,7 +18,9 @@ pub mod timeline;
 pub use calls::{Call, Calls, Reply};
 pub use histories::{history, is_legal};
 pub use kv_block::{Change, Changes};
-pub use laws::{law_each_key, law_founded, law_one_more, law_order, law_points_stay};
+pub use laws::{
+    law_any_order, law_each_key, law_founded, law_one_more, law_order, law_points_stay,
+};
 pub use machine::{MapMachine, map_at};
 pub use nexts::Nexts;
 pub use plans::{Item, Items, Plan, Plans};
