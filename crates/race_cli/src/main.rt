@@ -1,0 +1,43 @@
+//! The program `race`: its words name a command, which reads standard input and writes standard output.
+//!
+//! Main makes the real source and sink, calls `race`, prints the usage line at status 2 on standard error, and ends with the
+//! status. The words and the statuses are written in docs/SCRIPTS.md.
+#![tactic(auto)]
+
+use race_io::{ReaderSource, WriterSink};
+use race_play::race;
+use std::process::ExitCode;
+use std::{env, io};
+
+const USAGE: &str = "usage: race replay";
+
+/// The words are no command.
+const NO_COMMAND: u8 = 2;
+
+/// There was no memory.
+const NO_MEMORY: u8 = 6;
+
+fn main(rt: HostRuntime) -> ExitCode {
+    let status = match status_of(&rt) {
+        Ok(status) => status,
+        // a word that is no text is no command
+        Err(fault) if fault.kind() == io::ErrorKind::InvalidData => NO_COMMAND,
+        Err(_) => NO_MEMORY,
+    };
+    if status == NO_COMMAND {
+        let _ = eprintln!(rt; "{USAGE}");
+    }
+    ExitCode::from(status)
+}
+
+/// The status of the command that the program's words name.
+fn status_of(rt: &HostRuntime) -> io::Result<u8> {
+    let args: Vec<String> = env::args(rt)?.collect(rt.alloc())?;
+    let mut words: Vec<&str> = Vec::new(rt.alloc());
+    for word in args.iter().skip(1) {
+        words.push(word.as_str())?;
+    }
+    let mut source = ReaderSource::new(rt.stdin());
+    let mut sink = WriterSink::new(rt.stdout());
+    Ok(race(rt.alloc(), &words, &mut source, &mut sink).status)
+}
