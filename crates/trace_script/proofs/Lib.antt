@@ -7,3 +7,4 @@ pub mod ReadItems
 pub mod Schedules
 pub mod Placed
 pub mod Turns
+pub mod Joined

@@ -20,6 +20,18 @@ table_words version s =
     ∷ ((if version == 1 then [] else (codes "first=" ++ decimal s.first_depth) ∷ (codes "nodes=" ++ decimal s.nodes) ∷ [])
     ++ (codes "words=" ++ decimal s.words) ∷ (codes "tries=" ++ decimal s.tries) ∷ [])
 
+-- line 2 with its line feed, as it is written
+abbrev pub table_text_1 : Sizes → List ℕ
+table_text_1 s =
+    (codes "table groups=" ++ decimal s.groups) ++ (codes " depth=" ++ decimal s.max_depth)
+    ++ (codes " words=" ++ decimal s.words) ++ (codes " tries=" ++ decimal s.tries) ++ 10 ∷ []
+
+abbrev pub table_text_2 : Sizes → List ℕ
+table_text_2 s =
+    (codes "table groups=" ++ decimal s.groups) ++ (codes " depth=" ++ decimal s.max_depth)
+    ++ (codes " first=" ++ decimal s.first_depth) ++ (codes " nodes=" ++ decimal s.nodes)
+    ++ (codes " words=" ++ decimal s.words) ++ (codes " tries=" ++ decimal s.tries) ++ 10 ∷ []
+
 abbrev pub hash_words : List ℕ × ℕ → List (List ℕ)
 hash_words e = codes "hash" ∷ spelled e.0 ∷ hex_number e.1 ∷ []
 
@@ -47,6 +59,15 @@ abbrev pub item_word : List (List ℕ) → Item → List ℕ
 item_word names (item.Verbs client count) = if count == 1 then name_at names client else name_at names client ++ 42 ∷ decimal count
 item_word names (item.Call client) = name_at names client ++ 33 ∷ []
 
+-- the client of an item
+abbrev pub item_client : Item → ℕ
+item_client (item.Verbs client count) = client
+item_client (item.Call client) = client
+
+-- items, each behind a space
+abbrev pub spaced_items : List (List ℕ) → List Item → List ℕ
+spaced_items names items = flat_map (λ i. 32 ∷ item_word names i) items
+
 abbrev pub schedule_words : List (List ℕ) → List Item → List (List ℕ)
 schedule_words names items = codes "schedule" ∷ map (item_word names) items
 
@@ -60,15 +81,19 @@ content_words c =
 abbrev pub line_of : List (List ℕ) → List ℕ
 line_of words = join_with_byte 32 words
 
--- all lines of a script
-abbrev pub script_lines : ScriptValue → List (List ℕ)
-script_lines s =
-    map line_of (header_words s.version ∷ table_words s.version (sizes_of s.geometry s.tries) ∷ content_words s.content ++ (codes "end" ∷ []) ∷ [])
+-- a line with its line feed
+abbrev pub line_text : List (List ℕ) → List ℕ
+line_text words = line_of words ++ 10 ∷ []
 
--- lines, each with its line feed
-abbrev pub text_of : List (List ℕ) → List ℕ
-text_of lines = flat_map (λ line. line ++ 10 ∷ []) lines
+-- the text of lines
+abbrev pub text_of : List (List (List ℕ)) → List ℕ
+text_of lines = flat_map line_text lines
+
+-- all lines of a script, word by word
+abbrev pub script_words : ScriptValue → List (List (List ℕ))
+script_words s =
+    header_words s.version ∷ table_words s.version (sizes_of s.geometry s.tries) ∷ content_words s.content ++ (codes "end" ∷ []) ∷ []
 
 -- the text of a script
 abbrev pub text_of_script : ScriptValue → List ℕ
-text_of_script s = text_of (script_lines s)
+text_of_script s = text_of (script_words s)

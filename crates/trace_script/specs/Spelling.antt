@@ -41,9 +41,9 @@ hex_text [] = []
 hex_text (b ∷ bs) = hex_digit (b / 16) ∷ hex_digit (b % 16) ∷ hex_text bs
 
 -- sixteen hexadecimal digits of a number below 2 ^ 64
-abbrev pub hex_number : ℕ → List ℕ
+unfoldable pub hex_number : ℕ → List ℕ
 hex_number n = hex_text (to_be_bytes w64 n)
 
 -- a key or a value: plainly where it can be, else `%` and two digits a byte
-abbrev pub spelled : List ℕ → List ℕ
+unfoldable pub spelled : List ℕ → List ℕ
 spelled bytes = if is_plain_text bytes then bytes else 37 ∷ hex_text bytes

@@ -75,6 +75,30 @@ impl Body {
         self.clients.len() as u32
     }
 
+    pub fn hashes(&self) -> &IndexMap<Key, u64>
+        ensures { result.now.entries ≡ self.now.hashes }
+    {
+        &self.hashes
+    }
+
+    pub fn named_calls(&self) -> &IndexMap<Name, Calls>
+        ensures { map client_view result.now.entries ≡ self.now.clients }
+    {
+        &self.clients
+    }
+
+    pub fn stops(&self) -> &IndexMap<u32, u64>
+        ensures { result.now.entries ≡ self.now.stops }
+    {
+        &self.stops
+    }
+
+    pub fn schedules(&self) -> &[Items]
+        ensures { map (λ items. items.items) result.now ≡ self.now.schedules }
+    {
+        self.schedules.as_slice()
+    }
+
     pub fn name(&self, client: u32) -> &[u8]
         requires { client < length self.now.clients }
         ensures { result.now ≡ name_at (names_of self.now) client }

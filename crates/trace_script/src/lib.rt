@@ -19,6 +19,7 @@ mod script;
 mod table;
 mod text;
 mod word;
+mod writing;
 
 pub use fault::{ScriptFault, ScriptKind};
 pub use map_model::{Item, Items, Plan, Plans};
@@ -26,3 +27,6 @@ pub use reading::read_script;
 pub use report::{Line, Lines, Mode, Tag, reply_text, report_text};
 pub use script::Script;
 pub use text::Text;
+
+#[cfg(test)]
+mod tests;

@@ -144,7 +144,7 @@ impl Text {
     ghost use Rattle.trace_script.specs.Report.{nexts_text, reply_line, tag_text, outcome_text, call_line, mode_text, head_line, map_line};
 
     // Appends a space and a number.
-    fn put_spaced_number(&mut self, number: u64) -> Result<(), AllocError>
+    pub(crate) fn put_spaced_number(&mut self, number: u64) -> Result<(), AllocError>
         ensures { OnOk result (self.new.items ≡ self.old.items ++ 32 ∷ decimal number) }
     {
         self.push(b' ')?;
@@ -152,7 +152,7 @@ impl Text {
     }
 
     // Appends a space and a key or a value.
-    fn put_spaced(&mut self, bytes: &[u8]) -> Result<(), AllocError>
+    pub(crate) fn put_spaced(&mut self, bytes: &[u8]) -> Result<(), AllocError>
         ensures { OnOk result (self.new.items ≡ self.old.items ++ 32 ∷ spelled bytes.now) }
     {
         self.push(b' ')?;
@@ -209,7 +209,7 @@ impl Text {
         self.put_spelled(value.bytes())
     }
 
-    fn put_word_number(&mut self, word: &[u8], number: u64) -> Result<(), AllocError>
+    pub(crate) fn put_word_number(&mut self, word: &[u8], number: u64) -> Result<(), AllocError>
         ensures { OnOk result (self.new.items ≡ self.old.items ++ (word.now ++ decimal number)) }
     {
         self.put(word)?;

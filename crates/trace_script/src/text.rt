@@ -103,6 +103,7 @@ impl Text {
     }
 
     // Appends sixteen hexadecimal digits.
+    #[tactic(auto, unfolding(crate::specs::Spelling::hex_number))]
     pub(crate) fn put_hex_number(&mut self, number: u64) -> Result<(), AllocError>
         ensures { OnOk result (self.new.items ≡ self.old.items ++ hex_number number) }
     {
@@ -110,6 +111,7 @@ impl Text {
     }
 
     // Appends a key or a value as it is spelled.
+    #[tactic(auto, unfolding(crate::specs::Spelling::spelled))]
     pub(crate) fn put_spelled(&mut self, bytes: &[u8]) -> Result<(), AllocError>
         ensures { OnOk result (self.new.items ≡ self.old.items ++ spelled bytes.now) }
     {

@@ -1,0 +1,13 @@
+use Rattle.std.proofs.Common.{◌∙◌, ◌++◌, ◌∷◌, [], ap, codes, append_assoc}
+use Rattle.std.proofs.lemmas.Result.{on_ok_weaker}
+use Rattle.trace_script.specs.Content.{names_of}
+use Rattle.trace_script.specs.ScriptText.{spaced_items}
+use Rattle.trace_script.proofs.Joined.{schedule_line, three_parts}
+use Rattle.trace_script.proofs.body.Body.put_schedule_line.Goals as goal
+
+pub returns : goal.returns
+returns c =
+    let names = names_of c.args.self.now in
+    let items = c.args.items.now.items in
+    rw (schedule_line names items) (on_ok_weaker c.push.result (λ e. e
+      ∙ rw (c.in_ok-put_items.ensures, c.in_ok-put.ensures, c.as_slice.ensures) (three_parts c.args.out.now.items (codes "schedule") (spaced_items names items) (10 ∷ []))) c.push.ensures.appended)

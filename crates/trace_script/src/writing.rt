@@ -1,0 +1,204 @@
+//! Writing a script: each of its lines, one after the other.
+ghost use Rattle.std.specs.Prelude.{◌≡◌, ◌<◌, ◌≤◌, ◌++◌, ◌∷◌, [], length, map, All, OnOk, IfOk, codes};
+ghost use Rattle.std.specs.List.{flat_map, AllByRecursion};
+ghost use Rattle.std.specs.Fmt.{decimal};
+ghost use Rattle.trace_script.specs.Content.{names_of, sizes_of, client_view};
+ghost use Rattle.trace_script.specs.ScriptText.{table_text_1, table_text_2, hash_words, call_words, client_words, stop_words, item_word, schedule_words, content_words, header_words, table_words, name_at, item_client, spaced_items, line_of, line_text, text_of, text_of_script};
+
+use crate::body::Body;
+use crate::script::Script;
+use crate::text::Text;
+use crate::name::Name;
+use indexmap::IndexMap;
+use kv_block::Key;
+use map_model::{Call, Calls, Item, Items};
+use node_words::Geometry;
+use std::alloc::{AllocError, Global};
+
+impl Text {
+    // `hash KEY HEX`
+    pub(crate) fn put_hash_line(&mut self, key: &Key, hash: u64) -> Result<(), AllocError>
+        ensures { OnOk result (self.new.items ≡ self.old.items ++ line_text (hash_words (key.now, hash))) }
+    {
+        self.put(b"hash")?;
+        self.put_spaced(key.bytes())?;
+        self.push(b' ')?;
+        self.put_hex_number(hash)?;
+        self.push(b'\n')
+    }
+
+    // `client NAME`
+    fn put_client_line(&mut self, name: &[u8]) -> Result<(), AllocError>
+        ensures { OnOk result (self.new.items ≡ self.old.items ++ line_text (codes "client" ∷ name.now ∷ [])) }
+    {
+        self.put(b"client ")?;
+        self.put(name)?;
+        self.push(b'\n')
+    }
+
+    // The lines of calls.
+    fn put_call_lines(&mut self, calls: &[Call]) -> Result<(), AllocError>
+        ensures { OnOk result (self.new.items ≡ self.old.items ++ text_of (map call_words calls.now)) }
+    {
+        for call in calls {
+            self.put_call(call)?;
+            self.push(b'\n')?;
+        }
+        Ok(())
+    }
+
+    // A client's line, and those of its calls.
+    pub(crate) fn put_client(&mut self, name: &[u8], calls: &Calls) -> Result<(), AllocError>
+        ensures { OnOk result (self.new.items ≡ self.old.items ++ text_of (client_words (name.now, calls.now.items))) }
+    {
+        self.put_client_line(name)?;
+        self.put_call_lines(calls.as_slice())
+    }
+
+    // `stop NAME N`
+    pub(crate) fn put_stop_line(&mut self, name: &[u8], stop: u64) -> Result<(), AllocError>
+        ensures { OnOk result (self.new.items ≡ self.old.items ++ line_text (codes "stop" ∷ name.now ∷ decimal stop ∷ [])) }
+    {
+        self.put(b"stop ")?;
+        self.put(name)?;
+        self.put_spaced_number(stop)?;
+        self.push(b'\n')
+    }
+
+    // Line 1.
+    fn put_header(&mut self, version: u32) -> Result<(), AllocError>
+        ensures { OnOk result (self.new.items ≡ self.old.items ++ line_text (header_words version)) }
+    {
+        self.put(b"race")?;
+        self.put_spaced_number(u64::from(version))?;
+        self.push(b'\n')
+    }
+    // Line 2 of version 1.
+    fn put_table_1(&mut self, geometry: &Geometry, tries: u32) -> Result<(), AllocError>
+        ensures { OnOk result (self.new.items ≡ self.old.items ++ table_text_1 (sizes_of geometry.now tries)) }
+    {
+        self.put_word_number(b"table groups=", geometry.groups as u64)?;
+        self.put_word_number(b" depth=", geometry.max_depth as u64)?;
+        self.put_word_number(b" words=", geometry.words)?;
+        self.put_word_number(b" tries=", tries as u64)?;
+        self.push(b'\n')
+    }
+
+    // Line 2 of version 2.
+    fn put_table_2(&mut self, geometry: &Geometry, tries: u32) -> Result<(), AllocError>
+        ensures { OnOk result (self.new.items ≡ self.old.items ++ table_text_2 (sizes_of geometry.now tries)) }
+    {
+        self.put_word_number(b"table groups=", geometry.groups as u64)?;
+        self.put_word_number(b" depth=", geometry.max_depth as u64)?;
+        self.put_word_number(b" first=", geometry.first_depth as u64)?;
+        self.put_word_number(b" nodes=", geometry.nodes as u64)?;
+        self.put_word_number(b" words=", geometry.words)?;
+        self.put_word_number(b" tries=", tries as u64)?;
+        self.push(b'\n')
+    }
+}
+
+impl Body {
+    // Appends an item.
+    fn put_item(&self, out: &mut Text, item: &Item) -> Result<(), AllocError>
+        requires { item_client item.now < length self.now.clients }
+        ensures { OnOk result (out.new.items ≡ out.old.items ++ item_word (names_of self.now) item.now) }
+    {
+        match item {
+            Item::Verbs { client, count: 1 } => out.put(self.name(*client)),
+            Item::Verbs { client, count } => {
+                out.put(self.name(*client))?;
+                out.put_word_number(b"*", u64::from(*count))
+            }
+            Item::Call { client } => {
+                out.put(self.name(*client))?;
+                out.push(b'!')
+            }
+        }
+    }
+
+    // Appends items, each behind a space.
+    fn put_items(&self, out: &mut Text, items: &[Item]) -> Result<(), AllocError>
+        requires { AllByRecursion (λ item. item_client item < length self.now.clients) items.now }
+        ensures { OnOk result (out.new.items ≡ out.old.items ++ spaced_items (names_of self.now) items.now) }
+    {
+        for item in items {
+            out.push(b' ')?;
+            self.put_item(out, item)?;
+        }
+        Ok(())
+    }
+}
+
+impl Body {
+    // `schedule ITEM ITEM ..`
+    #[tactic(auto, using(crate::proofs::Joined::schedule_line))]
+    fn put_schedule_line(&self, out: &mut Text, items: &Items) -> Result<(), AllocError>
+        requires { AllByRecursion (λ item. item_client item < length self.now.clients) items.now.items }
+        ensures { OnOk result (out.new.items ≡ out.old.items ++ line_text (schedule_words (names_of self.now) items.now.items)) }
+    {
+        out.put(b"schedule")?;
+        self.put_items(out, items.as_slice())?;
+        out.push(b'\n')
+    }
+    // The lines of the listed hashes.
+    fn put_hashes(&self, out: &mut Text) -> Result<(), AllocError>
+        ensures { OnOk result (out.new.items ≡ out.old.items ++ text_of (map hash_words self.now.hashes)) }
+    {
+        let mut hashes = self.hashes().iter();
+        while let Some((key, hash)) = hashes.next() {
+            out.put_hash_line(key, *hash)?;
+        }
+        Ok(())
+    }
+
+    // The lines of the schedule.
+    fn put_schedules(&self, out: &mut Text) -> Result<(), AllocError>
+        requires { AllByRecursion (AllByRecursion (λ item. item_client item < length self.now.clients)) self.now.schedules }
+        ensures { OnOk result (out.new.items ≡ out.old.items ++ text_of (map (schedule_words (names_of self.now)) self.now.schedules)) }
+    {
+        for items in self.schedules() {
+            self.put_schedule_line(out, items)?;
+        }
+        Ok(())
+    }
+
+    // The lines of the stops.
+    fn put_stops(&self, out: &mut Text) -> Result<(), AllocError>
+        requires { AllByRecursion (λ e. e.0 < length self.now.clients) self.now.stops }
+        ensures { OnOk result (out.new.items ≡ out.old.items ++ text_of (map (stop_words (names_of self.now)) self.now.stops)) }
+    {
+        let mut stops = self.stops().iter();
+        while let Some((client, stop)) = stops.next() {
+            out.put_stop_line(self.name(*client), *stop)?;
+        }
+        Ok(())
+    }
+}
+
+// The lines of the clients.
+#[tactic(auto, using(crate::proofs::Joined::text_of_append))]
+fn put_clients(out: &mut Text, clients: &IndexMap<Name, Calls>) -> Result<(), AllocError>
+    ensures { OnOk result (out.new.items ≡ out.old.items ++ text_of (flat_map client_words (map client_view clients.now.entries))) }
+{
+    let mut rest = clients.iter();
+    while let Some((name, calls)) = rest.next() {
+        out.put_client(name.bytes(), calls)?;
+    }
+    Ok(())
+}
+
+impl Body {
+    // All lines behind line 2, but for `end`.
+    #[tactic(auto, using(crate::proofs::Joined::text_of_append))]
+    fn put_content(&self, out: &mut Text) -> Result<(), AllocError>
+        requires stops { AllByRecursion (λ e. e.0 < length self.now.clients) self.now.stops }
+        requires items { AllByRecursion (AllByRecursion (λ item. item_client item < length self.now.clients)) self.now.schedules }
+        ensures { OnOk result (out.new.items ≡ out.old.items ++ text_of (content_words self.now)) }
+    {
+        self.put_hashes(out)?;
+        put_clients(out, self.named_calls())?;
+        self.put_stops(out)?;
+        self.put_schedules(out)
+    }
+}
