@@ -8,3 +8,5 @@ pub mod Schedules
 pub mod Placed
 pub mod Turns
 pub mod Joined
+pub mod Leaves
+pub mod Spelled

@@ -7,3 +7,4 @@ pub mod Gives
 pub mod Drafts
 pub mod Tables
 pub mod Report
+pub mod Valid

@@ -1,7 +1,8 @@
 //! Reading a script: its lines, one after the other.
-ghost use Rattle.std.specs.Prelude.{◌≡◌, ◌≤◌, ◌<◌, ◌^◌, ◌+◌, IfOk, length, MatchResult, Ok, Err};
+ghost use Rattle.std.specs.Prelude.{◌≡◌, ◌≤◌, ◌<◌, ◌^◌, ◌+◌, IfOk, length, MatchResult, Ok, Err, ℕ, List, Some};
 ghost use Rattle.trace_script.specs.Content.{no_content, sizes_of};
-ghost use Rattle.trace_script.specs.Words.{parts_at};
+ghost use Rattle.trace_script.specs.Words.{parts_at, hex_bytes};
+ghost use Rattle.trace_script.specs.Spelling.{hex_text};
 ghost use Rattle.trace_script.specs.Rules.{next_line, ending, read_lines, most_clients, version_line, table_line, head_of, script_of};
 ghost use Rattle.trace_script.specs.Gives.{Tells, Reads, told_of};
 
@@ -169,4 +170,10 @@ pub fn read_script(alloc: Global, bytes: &[u8]) -> Result<Script, ScriptFault>
     let head = Head::read(bytes)?;
     let body = read_lines(alloc, most_clients(head.version), head.rest)?;
     Ok(Script::of_parts(head.version, head.geometry, head.tries, body))
+}
+
+/// Laws.
+pub fn laws()
+    ensures { (bs w : List ℕ) → hex_bytes w ≡ Some bs → hex_text bs ≡ w }
+{
 }
