@@ -10,3 +10,5 @@ pub mod Turns
 pub mod Joined
 pub mod Leaves
 pub mod Spelled
+pub mod Each
+pub mod Found

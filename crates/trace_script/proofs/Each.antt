@@ -1,0 +1,45 @@
+-- Lists of which each item agrees with those before it.
+use Rattle.std.proofs.Common.{◌≡◌, ℕ, Bool, true, false, List, [], ◌∷◌, ◌++◌, Option, Some, None, Result, Ok, Err, refl, sym, ap, subst, ◌∙◌, append_assoc, append-nil, if◌then◌else◌}
+use Rattle.trace_script.specs.Valid.{Each}
+use Rattle.trace_script.specs.declared.fault.ScriptKind.{ScriptKind}
+use Rattle.trace_script.specs.Rules.{◌>>=◌, or_else, is_empty}
+
+-- one item more
+pub Each-push : {X : Type 0} (P : List X → X → Type 0) (front xs : List X) (x : X) → Each P front xs → P (front ++ xs) x → Each P front (xs ++ x ∷ [])
+Each-push P front [] x h p = (subst (λ f. P f x) (append-nil front) p, tt)
+Each-push P front (y ∷ ys) x h p = (h.0, Each-push P (front ++ y ∷ []) ys x h.1 (subst (λ f. P f x) (sym (append_assoc front (y ∷ []) ys)) p))
+
+-- what a step gave, step by step
+pub ok_bind : {E A B : Type 0} (r : Result A E) (f : A → Result B E) (y : B) → (r >>= f) ≡ Ok y → (x : A) × (r ≡ Ok x) × (f x ≡ Ok y)
+ok_bind (Ok x) f y h = (x, refl, h)
+ok_bind (Err e) f y h = absurd (by h)
+  where
+    by : Err e ≡ Ok y → ⊥
+    by q = cc
+
+pub ok_same : {E A : Type 0} (x y : A) → ◌≡◌ {A = Result A E} (Ok x) (Ok y) → x ≡ y
+ok_same x y h = cc
+
+pub err_ok : {E A : Type 0} (e : E) (y : A) → ◌≡◌ {A = Result A E} (Err e) (Ok y) → ⊥
+err_ok e y h = cc
+
+pub ok_or_else : {A : Type 0} (k : ScriptKind) (o : Option A) (x : A) → or_else k o ≡ Ok x → o ≡ Some x
+ok_or_else k (Some y) x h = ap Some (ok_same y x h)
+ok_or_else k None x h = absurd (err_ok k x h)
+
+-- a choice that gave an answer
+pub ok_unless : {A : Type 0} (b : Bool) (k : ScriptKind) (r : Result A ScriptKind) (x : A) → (if b then Err k else r) ≡ Ok x → (b ≡ false) × (r ≡ Ok x)
+ok_unless true k r x h = absurd (err_ok k x h)
+ok_unless false k r x h = (refl, h)
+
+pub ok_if : {A : Type 0} (b : Bool) (k : ScriptKind) (r : Result A ScriptKind) (x : A) → (if b then r else Err k) ≡ Ok x → (b ≡ true) × (r ≡ Ok x)
+ok_if true k r x h = (refl, h)
+ok_if false k r x h = absurd (err_ok k x h)
+
+-- an empty list
+pub nothing : {A : Type 0} (xs : List A) → is_empty xs ≡ true → xs ≡ []
+nothing [] h = refl
+nothing (x ∷ xs) h = absurd (by h)
+  where
+    by : false ≡ true → ⊥
+    by e = cc
