@@ -12,3 +12,4 @@ pub mod Leaves
 pub mod Spelled
 pub mod Each
 pub mod Found
+pub mod Taken

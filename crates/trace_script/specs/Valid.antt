@@ -1,5 +1,5 @@
 -- Which values are scripts.
-use Rattle.std.specs.Prelude.{◌≡◌, ℕ, ◌+◌, ◌<◌, ◌≤◌, ◌^◌, IsTrue, true, false, List, [], ◌∷◌, ◌++◌, length, map, position, nat_eq, Option, None, sum_by}
+use Rattle.std.specs.Prelude.{◌≡◌, ℕ, ◌+◌, ◌<◌, ◌≤◌, ◌^◌, IsTrue, true, false, List, [], ◌∷◌, ◌++◌, length, map, position, nat_eq, Option, None}
 use Rattle.std.specs.List.{AllByRecursion}
 use Rattle.std.specs.Map.{lookup}
 use Rattle.kv_block.specs.Bytes.{key_eq, IsKeyLength, IsValueLength, AreBytes}
@@ -57,7 +57,8 @@ IsSchedule clients items = (1 ≤ length items) × AllByRecursion (IsItem client
 
 -- how many calls there are
 abbrev pub call_count : List (List ℕ × List Call) → ℕ
-call_count clients = sum_by (λ e. length e.1) clients
+call_count [] = 0
+call_count (e ∷ es) = length e.1 + call_count es
 
 -- the lines behind the first two, but for their length
 pub record IsContent (most : ℕ) (c : Content) : Type 0 where

@@ -1,4 +1,4 @@
-use Rattle.trace_script.proofs.Found.{hash-found}
+use Rattle.trace_script.proofs.Taken.{IsReading}
 use Rattle.trace_script.proofs.Leaves.{hex_text-hex_bytes}
 use Rattle.trace_script.proofs.reading.laws.Goals as goal
 
