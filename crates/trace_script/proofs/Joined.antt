@@ -5,7 +5,9 @@ use Rattle.std.proofs.lemmas.List.Concat.{flat_map-append}
 use Rattle.std.specs.Fmt.{decimal}
 use Rattle.trace_script.specs.Content.{Sizes}
 use Rattle.map_model.specs.declared.plans.Item.{Item}
-use Rattle.trace_script.specs.ScriptText.{table_text_1, table_text_2, table_words, line_text, text_of, line_of, schedule_words, item_word, spaced_items}
+use Rattle.map_model.specs.declared.plans.Item.TheVariants as item
+use Rattle.trace_script.specs.Valid.{Each, IsStop, IsItem, IsSchedule}
+use Rattle.trace_script.specs.ScriptText.{item_client, table_text_1, table_text_2, table_words, line_text, text_of, line_of, schedule_words, item_word, spaced_items}
 
 -- parts and a line feed, grouped from the left or the right
 joined-4 : (a b c d : List ℕ) → a ++ b ++ c ++ d ++ 10 ∷ [] ≡ (a ++ (b ++ (c ++ d))) ++ 10 ∷ []
@@ -55,3 +57,18 @@ pub first_has : {X Y : Type 0} (P : Y → Type 0) (f : X → Y) (xs : List X) (i
 first_has P f xs i x h is all =
     let rest = subst (λ r. AllByRecursion P (map f r)) (drop-cons xs i x h) all in
     subst (λ y. P (f y)) (sym is) rest.0
+
+-- the stops of a script are those of its clients
+pub stops_known : (clients : ℕ) (front stops : List (ℕ × ℕ)) → Each (IsStop clients) front stops → AllByRecursion (λ e. e.0 < clients) stops
+stops_known clients front [] h = tt
+stops_known clients front (e ∷ es) h = (h.0.0, stops_known clients (front ++ e ∷ []) es h.1)
+
+items_known : (clients : ℕ) (items : List Item) → AllByRecursion (IsItem clients) items → AllByRecursion (λ i. item_client i < clients) items
+items_known clients [] h = tt
+items_known clients (item.Verbs client count ∷ is) h = (h.0.0, items_known clients is h.1)
+items_known clients (item.Call client ∷ is) h = (h.0, items_known clients is h.1)
+
+-- and so are its items
+pub schedules_known : (clients : ℕ) (schedules : List (List Item)) → AllByRecursion (IsSchedule clients) schedules → AllByRecursion (AllByRecursion (λ i. item_client i < clients)) schedules
+schedules_known clients [] h = tt
+schedules_known clients (is ∷ others) h = (items_known clients is h.0.1, schedules_known clients others h.1)

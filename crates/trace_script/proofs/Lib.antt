@@ -13,3 +13,5 @@ pub mod Spelled
 pub mod Each
 pub mod Found
 pub mod Taken
+pub mod FoundScript
+pub mod FoundHead

@@ -245,7 +245,7 @@ module _ (most : ℕ) (r : Reading) (h : IsReading most r) where
       subst (λ s. Took most r s (codes "schedule" ∷ words)) (ap (λ d. record r { content = d }) (sym b.2) ∙ a.2) took
 
   -- any line
-  took-command : (s : Reading) (d : Command) (words : List (List ℕ)) → misplaced r.content d ≡ None → command_step most r d words ≡ Ok (Some s) → Took most r s (command_word d ∷ words)
+  pub took-command : (s : Reading) (d : Command) (words : List (List ℕ)) → misplaced r.content d ≡ None → command_step most r d words ≡ Ok (Some s) → Took most r s (command_word d ∷ words)
   took-command s command.Hash words p e = took-hash s words p e
   took-command s command.Client words p e = took-client s words p e
   took-command s command.Insert words p e =

@@ -27,6 +27,7 @@ pub use reading::read_script;
 pub use report::{Line, Lines, Mode, Tag, reply_text, report_text};
 pub use script::Script;
 pub use text::Text;
+pub use writing::script_text;
 
 #[cfg(test)]
 mod tests;

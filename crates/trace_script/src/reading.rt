@@ -1,8 +1,9 @@
 //! Reading a script: its lines, one after the other.
-ghost use Rattle.std.specs.Prelude.{◌≡◌, ◌≤◌, ◌<◌, ◌^◌, ◌+◌, IfOk, length, MatchResult, Ok, Err, ℕ, List, Some};
+ghost use Rattle.std.specs.Prelude.{◌≡◌, ◌≤◌, ◌<◌, ◌^◌, ◌+◌, IfOk, length, MatchResult, Ok, Err};
 ghost use Rattle.trace_script.specs.Content.{no_content, sizes_of};
-ghost use Rattle.trace_script.specs.Words.{parts_at, hex_bytes};
-ghost use Rattle.trace_script.specs.Spelling.{hex_text};
+ghost use Rattle.trace_script.specs.Words.{parts_at};
+ghost use Rattle.trace_script.specs.ScriptText.{text_of_script};
+ghost use Rattle.trace_script.specs.Valid.{IsScript};
 ghost use Rattle.trace_script.specs.Rules.{next_line, ending, read_lines, most_clients, version_line, table_line, head_of, script_of};
 ghost use Rattle.trace_script.specs.Gives.{Tells, Reads, told_of};
 
@@ -157,8 +158,12 @@ fn table_line(version: u32, bytes: &[u8]) -> Result<(Geometry, u32, &[u8]), Scri
     Ok((geometry, tries, rest))
 }
 
-/// Reads a script.
+/// Reads a script. It answers the script that the bytes spell, or else the first line that breaks a rule, and the
+/// first rule that it breaks.
 pub fn read_script(alloc: Global, bytes: &[u8]) -> Result<Script, ScriptFault>
+    // What is read is a script, and the bytes are its text.
+    ensures found { IfOk result (λ s. IsScript s × (bytes.now ≡ text_of_script s)) }
+    // Which script it is, or which refusal.
     ensures exact { Reads told_of result (script_of bytes.now) }
 {
     if bytes.len() > MOST_BYTES {
@@ -170,10 +175,4 @@ pub fn read_script(alloc: Global, bytes: &[u8]) -> Result<Script, ScriptFault>
     let head = Head::read(bytes)?;
     let body = read_lines(alloc, most_clients(head.version), head.rest)?;
     Ok(Script::of_parts(head.version, head.geometry, head.tries, body))
-}
-
-/// Laws.
-pub fn laws()
-    ensures { (bs w : List ℕ) → hex_bytes w ≡ Some bs → hex_text bs ≡ w }
-{
 }

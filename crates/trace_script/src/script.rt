@@ -1,7 +1,9 @@
 //! Scripts.
 ghost use Rattle.std.specs.Prelude.{◌≡◌, ◌≤◌, ◌<◌, length};
 ghost use Rattle.trace_script.specs.Content.{names_of, calls_at, stop_at};
-ghost use Rattle.trace_script.specs.ScriptText.{name_at};
+ghost use Rattle.trace_script.specs.ScriptText.{name_at, item_client};
+ghost use Rattle.std.specs.List.{AllByRecursion};
+ghost use Rattle.trace_script.specs.Valid.{IsScript};
 
 use crate::body::Body;
 use map_model::Calls;
@@ -20,15 +22,19 @@ pub struct Script {
 
 impl Model for Script {
     ghost use Rattle.trace_script.specs.Content.{ScriptValue};
+    ghost use Rattle.trace_script.specs.Valid.{IsScript};
 
     ghost Value = { ScriptValue };
 
     ghost view = { λ s. record { version = s.version; geometry = s.geometry; tries = s.tries; content = s.body } };
+
+    ghost invariant = { λ s. IsScript (record { version = s.version; geometry = s.geometry; tries = s.tries; content = s.body }) };
 }
 
 impl Script {
     // A script that was read.
     pub(crate) fn of_parts(version: u32, geometry: Geometry, tries: u32, body: Body) -> Script
+        requires { IsScript (record { version = version; geometry = geometry; tries = tries; content = body }) }
         ensures { result ≡ record { version = version; geometry = geometry; tries = tries; content = body } }
     {
         Script {
@@ -39,9 +45,20 @@ impl Script {
         }
     }
 
+    // The lines behind the first two.
+    pub(crate) fn body(&self) -> &Body
+        ensures value { result.now ≡ self.now.content }
+        ensures stops { AllByRecursion (λ e. e.0 < length self.now.content.clients) self.now.content.stops }
+        ensures items { AllByRecursion (AllByRecursion (λ item. item_client item < length self.now.content.clients)) self.now.content.schedules }
+    {
+        &self.body
+    }
+
     /// The version: 1 or 2.
     pub fn version(&self) -> u32
-        ensures { result ≡ self.now.version }
+        ensures value { result ≡ self.now.version }
+        ensures least { 1 ≤ result }
+        ensures most { result ≤ 2 }
     {
         self.version
     }
@@ -52,16 +69,19 @@ impl Script {
         self.geometry
     }
 
-    /// The tries.
+    /// The tries: 1 to 64.
     pub fn tries(&self) -> u32
-        ensures { result ≡ self.now.tries }
+        ensures value { result ≡ self.now.tries }
+        ensures least { 1 ≤ result }
+        ensures most { result ≤ 64 }
     {
         self.tries
     }
 
-    /// How many clients there are.
+    /// How many clients there are: 1 to 64.
     pub fn clients(&self) -> u32
         ensures number { result ≡ length self.now.content.clients }
+        ensures least { 1 ≤ result }
         ensures few { result ≤ 64 }
     {
         self.body.clients()
@@ -89,5 +109,12 @@ impl Script {
         ensures { result ≡ stop_at self.now.content client }
     {
         self.body.stop_at(client)
+    }
+    /// What is known of every script: the numbers and the lines are within the limits, no key is listed twice, no two
+    /// clients have one name, and so on.
+    pub fn is_script(&self)
+        ensures { IsScript self.now }
+    {
+        let _ = &self.tries;
     }
 }

@@ -202,3 +202,30 @@ impl Body {
         self.put_schedules(out)
     }
 }
+
+impl Text {
+    // The first two lines.
+    fn put_head(&mut self, version: u32, geometry: &Geometry, tries: u32) -> Result<(), AllocError>
+        requires least { 1 ≤ version }
+        requires most { version ≤ 2 }
+        ensures { OnOk result (self.new.items ≡ self.old.items ++ text_of (header_words version ∷ table_words version (sizes_of geometry.now tries) ∷ [])) }
+    {
+        self.put_header(version)?;
+        if version == 1 {
+            self.put_table_1(geometry, tries)
+        } else {
+            self.put_table_2(geometry, tries)
+        }
+    }
+}
+
+/// The text of a script.
+pub fn script_text(alloc: Global, script: &Script) -> Result<Text, AllocError>
+    ensures { IfOk result (λ text. text.items ≡ text_of_script script.now) }
+{
+    let mut text = Text::new(alloc);
+    text.put_head(script.version(), &script.geometry(), script.tries())?;
+    script.body().put_content(&mut text)?;
+    text.put(b"end\n")?;
+    Ok(text)
+}
