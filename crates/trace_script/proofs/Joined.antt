@@ -3,11 +3,11 @@ use Rattle.std.proofs.Common.{◌≡◌, ℕ, List, [], ◌∷◌, ◌++◌, ref
 use Rattle.std.specs.List.{join_with_byte, flat_map, AllByRecursion}
 use Rattle.std.proofs.lemmas.List.Concat.{flat_map-append}
 use Rattle.std.specs.Fmt.{decimal}
-use Rattle.trace_script.specs.Content.{Sizes}
+use Rattle.trace_script.specs.Content.{Sizes, ScriptValue, sizes_of}
 use Rattle.map_model.specs.declared.plans.Item.{Item}
 use Rattle.map_model.specs.declared.plans.Item.TheVariants as item
 use Rattle.trace_script.specs.Valid.{Each, IsStop, IsItem, IsSchedule}
-use Rattle.trace_script.specs.ScriptText.{item_client, table_text_1, table_text_2, table_words, line_text, text_of, line_of, schedule_words, item_word, spaced_items}
+use Rattle.trace_script.specs.ScriptText.{item_client, header_words, content_words, text_of_script, table_text_1, table_text_2, table_words, line_text, text_of, line_of, schedule_words, item_word, spaced_items}
 
 -- parts and a line feed, grouped from the left or the right
 joined-4 : (a b c d : List ℕ) → a ++ b ++ c ++ d ++ 10 ∷ [] ≡ (a ++ (b ++ (c ++ d))) ++ 10 ∷ []
@@ -72,3 +72,14 @@ items_known clients (item.Call client ∷ is) h = (h.0, items_known clients is h
 pub schedules_known : (clients : ℕ) (schedules : List (List Item)) → AllByRecursion (IsSchedule clients) schedules → AllByRecursion (AllByRecursion (λ i. item_client i < clients)) schedules
 schedules_known clients [] h = tt
 schedules_known clients (is ∷ others) h = (items_known clients is h.0.1, schedules_known clients others h.1)
+
+-- the text of a script, part by part
+pub whole_text : (s : ScriptValue) → line_text (header_words s.version) ++ line_text (table_words s.version (sizes_of s.geometry s.tries)) ++ text_of (content_words s.content) ++ codes "end\n" ≡ text_of_script s
+whole_text s =
+    let h = line_text (header_words s.version) in
+    let t = line_text (table_words s.version (sizes_of s.geometry s.tries)) in
+    let c = text_of (content_words s.content) in
+    append_assoc (h ++ t) c (codes "end\n") ∙ append_assoc h t (c ++ codes "end\n") ∙ ap (λ r. h ++ (t ++ r)) (sym (text_of_append (content_words s.content) ((codes "end" ∷ []) ∷ [])))
+
+four_parts : (old a b c d : List ℕ) → old ++ a ++ b ++ c ++ d ≡ old ++ (a ++ b ++ c ++ d)
+four_parts old a b c d = simp append_assoc refl

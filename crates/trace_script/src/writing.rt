@@ -204,13 +204,12 @@ impl Body {
 }
 
 impl Text {
-    // The first two lines.
-    fn put_head(&mut self, version: u32, geometry: &Geometry, tries: u32) -> Result<(), AllocError>
+    // Line 2.
+    fn put_table(&mut self, version: u32, geometry: &Geometry, tries: u32) -> Result<(), AllocError>
         requires least { 1 ≤ version }
         requires most { version ≤ 2 }
-        ensures { OnOk result (self.new.items ≡ self.old.items ++ text_of (header_words version ∷ table_words version (sizes_of geometry.now tries) ∷ [])) }
+        ensures { OnOk result (self.new.items ≡ self.old.items ++ line_text (table_words version (sizes_of geometry.now tries))) }
     {
-        self.put_header(version)?;
         if version == 1 {
             self.put_table_1(geometry, tries)
         } else {
@@ -224,7 +223,8 @@ pub fn script_text(alloc: Global, script: &Script) -> Result<Text, AllocError>
     ensures { IfOk result (λ text. text.items ≡ text_of_script script.now) }
 {
     let mut text = Text::new(alloc);
-    text.put_head(script.version(), &script.geometry(), script.tries())?;
+    text.put_header(script.version())?;
+    text.put_table(script.version(), &script.geometry(), script.tries())?;
     script.body().put_content(&mut text)?;
     text.put(b"end\n")?;
     Ok(text)
