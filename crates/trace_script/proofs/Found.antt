@@ -151,7 +151,7 @@ pair-found calls words pair h =
     let v = ok_bind (or_else kind.Value (value_of a.0.1)) _ pair k.2 in
     let value = spelled-value_of a.0.1 v.0 (ok_or_else kind.Value (value_of a.0.1) v.0 v.1) in
     let found : (words ≡ spelled k.0 ∷ spelled v.0 ∷ []) × IsKey k.0 × IsValue v.0 × (calls < 65536) =
-          (word ∙ ap (λ w. w ∷ a.0.1 ∷ []) (sym key.0) ∙ ap (λ w. spelled k.0 ∷ w ∷ []) (sym value.0), key.1, value.1, ltb-true calls 65536 b.0) in
+    (word ∙ ap (λ w. w ∷ a.0.1 ∷ []) (sym key.0) ∙ ap (λ w. spelled k.0 ∷ w ∷ []) (sym value.0), key.1, value.1, ltb-true calls 65536 b.0) in
     let whole : List ℕ × List ℕ = (k.0, v.0) in
     subst (λ (p : List ℕ × List ℕ). (words ≡ spelled p.0 ∷ spelled p.1 ∷ []) × IsKey p.0 × IsValue p.1 × (calls < 65536)) (ok_same whole pair v.2) found
 
@@ -178,10 +178,10 @@ known-found c w i h =
 pub within-found : (low high : ℕ) (w : List ℕ) (n : ℕ) → number_within low high w ≡ Some n → (decimal n ≡ w) × (low ≤ n) × (n ≤ high)
 within-found low high w n h =
     option_and_then_some (λ n. if is_within low high n then Some n else None) (number_of w) n h (λ m read fits.
-      let p = cond_some (is_within low high m) m n fits in
-      let q = and_parts _ _ p.0 in
-      let found : (decimal m ≡ w) × (low ≤ m) × (m ≤ high) = ((decimal-number_of w m read).0, leb-true low m q.0, leb-true m high q.1) in
-      subst (λ m. (decimal m ≡ w) × (low ≤ m) × (m ≤ high)) p.1 found)
+    let p = cond_some (is_within low high m) m n fits in
+    let q = and_parts _ _ p.0 in
+    let found : (decimal m ≡ w) × (low ≤ m) × (m ≤ high) = ((decimal-number_of w m read).0, leb-true low m q.0, leb-true m high q.1) in
+    subst (λ m. (decimal m ≡ w) × (low ≤ m) × (m ≤ high)) p.1 found)
 
 -- `stop NAME N`
 pub stop-found : (c d : Content) (words : List (List ℕ)) → stop_step c words ≡ Ok d
@@ -193,9 +193,13 @@ stop-found c d words h =
     let client = known-found c a.0.0 b.0 (ok_or_else kind.Client (client_of c a.0.0) b.0 b.1) in
     let fresh = ok_unless (is_some (stop_at c b.0)) kind.Client _ d b.2 in
     let e = ok_bind (or_else kind.Number (number_within 0 1000000000 a.0.1)) _ d fresh.1 in
-    let stop = within-found 0 1000000000 a.0.1 e.0 (ok_or_else kind.Number (number_within 0 1000000000 a.0.1) e.0 e.1) in
-    (b.0, e.0, pair ∙ ap (λ w. w ∷ a.0.1 ∷ []) (sym client.0) ∙ ap (λ w. name_at (names_of c) b.0 ∷ w ∷ []) (sym stop.0), sym (ok_same (with_stop c b.0 e.0) d e.2),
-      (client.1, stop.2, none-from (stop_at c b.0) fresh.0))
+    let stop = within-found 0 1000000000 a.0.1 e.0 (ok_or_else kind.Number (number_within 0 1000000000 a.0.1) e.0 e.1) in (
+      b.0,
+      e.0,
+      pair ∙ ap (λ w. w ∷ a.0.1 ∷ []) (sym client.0) ∙ ap (λ w. name_at (names_of c) b.0 ∷ w ∷ []) (sym stop.0),
+      sym (ok_same (with_stop c b.0 e.0) d e.2),
+      (client.1, stop.2, none-from (stop_at c b.0) fresh.0),
+    )
 
 -- the two parts of an item
 item-parts : (w : List ℕ) → item_name w ++ item_rest w ≡ w
@@ -218,6 +222,7 @@ with-found n names client (b ∷ bs) i l h = by (nat_eq b 33 && is_empty bs) ref
   where
     Goal : Type 0
     Goal = (item_word names i ≡ name_at names client ++ b ∷ bs) × IsItem n i
+
     by : (t : Bool) → (nat_eq b 33 && is_empty bs) ≡ t → (item_word names i ≡ name_at names client ++ b ∷ bs) × IsItem n i
     by true e =
         let p = and_parts _ _ e in
@@ -231,14 +236,14 @@ with-found n names client (b ∷ bs) i l h = by (nat_eq b 33 && is_empty bs) ref
     by false e =
         let p = star (nat_eq b 42) (sym (cond-false _ _ _ e) ∙ h) in
         option_and_then_some (λ count. Some (item.Verbs client count)) (number_within 2 1000000 bs) i p.1 (λ count read made.
-          let mark = eqb-true b 42 p.0 in
-          let number = within-found 2 1000000 bs count read in
-          let verbs : Item = item.Verbs client count in
-          let many = cond-false _ _ _ (ne_eqb count 1 (λ one. let two = number.1 in omega (arith, one, two))) in
-          let text : item_word names verbs ≡ name_at names client ++ b ∷ bs =
-                many ∙ ap (λ x. name_at names client ++ x ∷ decimal count) (sym mark) ∙ ap (λ ds. name_at names client ++ b ∷ ds) number.0 in
-          let found : (item_word names verbs ≡ name_at names client ++ b ∷ bs) × IsItem n verbs = (text, (l, (let two = number.1 in omega (arith, two)), number.2)) in
-          subst (λ i. (item_word names i ≡ name_at names client ++ b ∷ bs) × IsItem n i) (same_Some verbs i made) found)
+        let mark = eqb-true b 42 p.0 in
+        let number = within-found 2 1000000 bs count read in
+        let verbs : Item = item.Verbs client count in
+        let many = cond-false _ _ _ (ne_eqb count 1 (λ one. let two = number.1 in omega (arith, one, two))) in
+        let text : item_word names verbs ≡ name_at names client ++ b ∷ bs =
+        many ∙ ap (λ x. name_at names client ++ x ∷ decimal count) (sym mark) ∙ ap (λ ds. name_at names client ++ b ∷ ds) number.0 in
+        let found : (item_word names verbs ≡ name_at names client ++ b ∷ bs) × IsItem n verbs = (text, (l, (let two = number.1 in omega (arith, two)), number.2)) in
+        subst (λ i. (item_word names i ≡ name_at names client ++ b ∷ bs) × IsItem n i) (same_Some verbs i made) found)
       where
         star : (t : Bool) → (if t then option_and_then (λ count. Some (item.Verbs client count)) (number_within 2 1000000 bs) else None) ≡ Some i
             → (t ≡ true) × (option_and_then (λ count. Some (item.Verbs client count)) (number_within 2 1000000 bs) ≡ Some i)
@@ -252,9 +257,9 @@ with-found n names client (b ∷ bs) i l h = by (nat_eq b 33 && is_empty bs) ref
 item-found : (c : Content) (w : List ℕ) (i : Item) → item_of c w ≡ Some i → (item_word (names_of c) i ≡ w) × IsItem (length c.clients) i
 item-found c w i h =
     option_and_then_some (λ client. item_with client (item_rest w)) (client_of c (item_name w)) i h (λ client read made.
-      let known = known-found c (item_name w) client read in
-      let found = with-found (length c.clients) (names_of c) client (item_rest w) i known.1 made in
-      (found.0 ∙ ap (λ x. x ++ item_rest w) known.0 ∙ item-parts w, found.1))
+    let known = known-found c (item_name w) client read in
+    let found = with-found (length c.clients) (names_of c) client (item_rest w) i known.1 made in
+    (found.0 ∙ ap (λ x. x ++ item_rest w) known.0 ∙ item-parts w, found.1))
 
 -- items that are read are spelled so
 items-found : (c : Content) (ws : List (List ℕ)) (is : List Item) → items_of c ws ≡ Some is → (map (item_word (names_of c)) is ≡ ws) × AllByRecursion (IsItem (length c.clients)) is
@@ -266,7 +271,7 @@ items-found c (w ∷ ws) is h =
     let first = item-found c w p.0 p.2 in
     let others = items-found c ws p.1 p.3 in
     let found : (map (item_word (names_of c)) (p.0 ∷ p.1) ≡ w ∷ ws) × AllByRecursion (IsItem (length c.clients)) (p.0 ∷ p.1) =
-          (ap (λ x. x ∷ map (item_word (names_of c)) p.1) first.0 ∙ ap (λ xs. w ∷ xs) others.0, (first.1, others.1)) in
+    (ap (λ x. x ∷ map (item_word (names_of c)) p.1) first.0 ∙ ap (λ xs. w ∷ xs) others.0, (first.1, others.1)) in
     subst (λ is. (map (item_word (names_of c)) is ≡ w ∷ ws) × AllByRecursion (IsItem (length c.clients)) is) p.4 found
   where
     first-parts : (o : Option Item) (os : Option (List Item)) → item_first o os ≡ Some is → (i : Item) × (js : List Item) × (o ≡ Some i) × (os ≡ Some js) × (i ∷ js ≡ is)

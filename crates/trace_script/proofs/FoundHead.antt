@@ -47,13 +47,16 @@ version-found line v h = by (key_eq line (codes "race 1")) refl
   where
     spelled_1 : line_of (header_words 1) ≡ codes "race 1"
     spelled_1 = ap (λ d. codes "race" ++ 32 ∷ d) (decimal_digit 1 (omega arith))
+
     spelled_2 : line_of (header_words 2) ≡ codes "race 2"
     spelled_2 = ap (λ d. codes "race" ++ 32 ∷ d) (decimal_digit 2 (omega arith))
+
     second : (t : Bool) → key_eq line (codes "race 2") ≡ t → (if t then Ok 2 else Err kind.Header) ≡ Ok v → (line_of (header_words v) ≡ line) × (1 ≤ v) × (v ≤ 2)
     second true e g =
         let found : (line_of (header_words 2) ≡ line) × (1 ≤ 2) × (2 ≤ 2) = (spelled_2 ∙ sym (same_text line (codes "race 2") (sym e)), omega arith, omega arith) in
         subst (λ v. (line_of (header_words v) ≡ line) × (1 ≤ v) × (v ≤ 2)) (ok_same 2 v g) found
     second false e g = absurd (err_ok kind.Header v g)
+
     by : (t : Bool) → key_eq line (codes "race 1") ≡ t → (line_of (header_words v) ≡ line) × (1 ≤ v) × (v ≤ 2)
     by true e =
         let found : (line_of (header_words 1) ≡ line) × (1 ≤ 1) × (1 ≤ 2) = (spelled_1 ∙ sym (same_text line (codes "race 1") (sym e)), omega arith, omega arith) in
@@ -80,9 +83,9 @@ field-found : (label : List ℕ) (words : List (List ℕ)) (p : List ℕ × List
 field-found label [] p h = absurd (err_ok kind.Table p h)
 field-found label (w ∷ ws) p h =
     option_and_then_some (λ text. Some (let pair : List ℕ × List (List ℕ) = (text, ws) in pair)) (behind_label label w) p (ok_or_else kind.Table _ p h) (λ text read made.
-      let pair : List ℕ × List (List ℕ) = (text, ws) in
-      let found : w ∷ ws ≡ (label ++ pair.0) ∷ pair.1 = ap (λ x. x ∷ ws) (sym (label-found label w text read)) in
-      subst (λ (p : List ℕ × List (List ℕ)). w ∷ ws ≡ (label ++ p.0) ∷ p.1) (same_Some pair p made) found)
+    let pair : List ℕ × List (List ℕ) = (text, ws) in
+    let found : w ∷ ws ≡ (label ++ pair.0) ∷ pair.1 = ap (λ x. x ∷ ws) (sym (label-found label w text read)) in
+    subst (λ (p : List ℕ × List (List ℕ)). w ∷ ws ≡ (label ++ p.0) ∷ p.1) (same_Some pair p made) found)
 
 table-found : (words rest : List (List ℕ)) → behind_table words ≡ Ok rest → words ≡ codes "table" ∷ rest
 table-found [] rest h = absurd (err_ok kind.Table rest h)
@@ -95,7 +98,7 @@ abbrev size_words-of : ℕ → SizeWords → List (List ℕ)
 size_words-of version w =
     codes "table" ∷ (codes "groups=" ++ w.groups) ∷ (codes "depth=" ++ w.max_depth)
     ∷ ((if version == 1 then [] else (codes "first=" ++ w.first_depth) ∷ (codes "nodes=" ++ w.nodes) ∷ [])
-      ++ (codes "words=" ++ w.words) ∷ (codes "tries=" ++ w.tries) ∷ [])
+    ++ (codes "words=" ++ w.words) ∷ (codes "tries=" ++ w.tries) ∷ [])
 
 no_more-found : {A : Type 0} (words : List (List ℕ)) (x y : A) → no_more words x ≡ Ok y → (words ≡ []) × (x ≡ y)
 no_more-found words x y h = let a = ok_if (is_empty words) kind.Table (Ok x) y h in (nothing words a.0, ok_same x y a.1)
@@ -110,11 +113,11 @@ size_1-found words w h =
     let last : SizeWords = record { groups = g.0.0; max_depth = d.0.0; first_depth = codes "0"; nodes = codes "1"; words = a.0.0; tries = r.0.0 } in
     let end = no_more-found r.0.1 last w r.2 in
     let text : words ≡ size_words-of 1 last =
-          table-found words t.0 t.1 ∙ ap (λ ws. codes "table" ∷ ws) (field-found (codes "groups=") t.0 g.0 g.1)
-          ∙ ap (λ ws. codes "table" ∷ (codes "groups=" ++ g.0.0) ∷ ws) (field-found (codes "depth=") g.0.1 d.0 d.1)
-          ∙ ap (λ ws. codes "table" ∷ (codes "groups=" ++ g.0.0) ∷ (codes "depth=" ++ d.0.0) ∷ ws) (field-found (codes "words=") d.0.1 a.0 a.1)
-          ∙ ap (λ ws. codes "table" ∷ (codes "groups=" ++ g.0.0) ∷ (codes "depth=" ++ d.0.0) ∷ (codes "words=" ++ a.0.0) ∷ ws) (field-found (codes "tries=") a.0.1 r.0 r.1)
-          ∙ ap (λ ws. codes "table" ∷ (codes "groups=" ++ g.0.0) ∷ (codes "depth=" ++ d.0.0) ∷ (codes "words=" ++ a.0.0) ∷ (codes "tries=" ++ r.0.0) ∷ ws) end.0 in
+    table-found words t.0 t.1 ∙ ap (λ ws. codes "table" ∷ ws) (field-found (codes "groups=") t.0 g.0 g.1)
+    ∙ ap (λ ws. codes "table" ∷ (codes "groups=" ++ g.0.0) ∷ ws) (field-found (codes "depth=") g.0.1 d.0 d.1)
+    ∙ ap (λ ws. codes "table" ∷ (codes "groups=" ++ g.0.0) ∷ (codes "depth=" ++ d.0.0) ∷ ws) (field-found (codes "words=") d.0.1 a.0 a.1)
+    ∙ ap (λ ws. codes "table" ∷ (codes "groups=" ++ g.0.0) ∷ (codes "depth=" ++ d.0.0) ∷ (codes "words=" ++ a.0.0) ∷ ws) (field-found (codes "tries=") a.0.1 r.0 r.1)
+    ∙ ap (λ ws. codes "table" ∷ (codes "groups=" ++ g.0.0) ∷ (codes "depth=" ++ d.0.0) ∷ (codes "words=" ++ a.0.0) ∷ (codes "tries=" ++ r.0.0) ∷ ws) end.0 in
     let found : (words ≡ size_words-of 1 last) × (last.first_depth ≡ codes "0") × (last.nodes ≡ codes "1") = (text, refl, refl) in
     subst (λ w. (words ≡ size_words-of 1 w) × (w.first_depth ≡ codes "0") × (w.nodes ≡ codes "1")) end.1 found
 
@@ -130,13 +133,13 @@ size_2-found words w h =
     let last : SizeWords = record { groups = g.0.0; max_depth = d.0.0; first_depth = f.0.0; nodes = n.0.0; words = a.0.0; tries = r.0.0 } in
     let end = no_more-found r.0.1 last w r.2 in
     let text : words ≡ size_words-of 2 last =
-          table-found words t.0 t.1 ∙ ap (λ ws. codes "table" ∷ ws) (field-found (codes "groups=") t.0 g.0 g.1)
-          ∙ ap (λ ws. codes "table" ∷ (codes "groups=" ++ g.0.0) ∷ ws) (field-found (codes "depth=") g.0.1 d.0 d.1)
-          ∙ ap (λ ws. codes "table" ∷ (codes "groups=" ++ g.0.0) ∷ (codes "depth=" ++ d.0.0) ∷ ws) (field-found (codes "first=") d.0.1 f.0 f.1)
-          ∙ ap (λ ws. codes "table" ∷ (codes "groups=" ++ g.0.0) ∷ (codes "depth=" ++ d.0.0) ∷ (codes "first=" ++ f.0.0) ∷ ws) (field-found (codes "nodes=") f.0.1 n.0 n.1)
-          ∙ ap (λ ws. codes "table" ∷ (codes "groups=" ++ g.0.0) ∷ (codes "depth=" ++ d.0.0) ∷ (codes "first=" ++ f.0.0) ∷ (codes "nodes=" ++ n.0.0) ∷ ws) (field-found (codes "words=") n.0.1 a.0 a.1)
-          ∙ ap (λ ws. codes "table" ∷ (codes "groups=" ++ g.0.0) ∷ (codes "depth=" ++ d.0.0) ∷ (codes "first=" ++ f.0.0) ∷ (codes "nodes=" ++ n.0.0) ∷ (codes "words=" ++ a.0.0) ∷ ws) (field-found (codes "tries=") a.0.1 r.0 r.1)
-          ∙ ap (λ ws. codes "table" ∷ (codes "groups=" ++ g.0.0) ∷ (codes "depth=" ++ d.0.0) ∷ (codes "first=" ++ f.0.0) ∷ (codes "nodes=" ++ n.0.0) ∷ (codes "words=" ++ a.0.0) ∷ (codes "tries=" ++ r.0.0) ∷ ws) end.0 in
+    table-found words t.0 t.1 ∙ ap (λ ws. codes "table" ∷ ws) (field-found (codes "groups=") t.0 g.0 g.1)
+    ∙ ap (λ ws. codes "table" ∷ (codes "groups=" ++ g.0.0) ∷ ws) (field-found (codes "depth=") g.0.1 d.0 d.1)
+    ∙ ap (λ ws. codes "table" ∷ (codes "groups=" ++ g.0.0) ∷ (codes "depth=" ++ d.0.0) ∷ ws) (field-found (codes "first=") d.0.1 f.0 f.1)
+    ∙ ap (λ ws. codes "table" ∷ (codes "groups=" ++ g.0.0) ∷ (codes "depth=" ++ d.0.0) ∷ (codes "first=" ++ f.0.0) ∷ ws) (field-found (codes "nodes=") f.0.1 n.0 n.1)
+    ∙ ap (λ ws. codes "table" ∷ (codes "groups=" ++ g.0.0) ∷ (codes "depth=" ++ d.0.0) ∷ (codes "first=" ++ f.0.0) ∷ (codes "nodes=" ++ n.0.0) ∷ ws) (field-found (codes "words=") n.0.1 a.0 a.1)
+    ∙ ap (λ ws. codes "table" ∷ (codes "groups=" ++ g.0.0) ∷ (codes "depth=" ++ d.0.0) ∷ (codes "first=" ++ f.0.0) ∷ (codes "nodes=" ++ n.0.0) ∷ (codes "words=" ++ a.0.0) ∷ ws) (field-found (codes "tries=") a.0.1 r.0 r.1)
+    ∙ ap (λ ws. codes "table" ∷ (codes "groups=" ++ g.0.0) ∷ (codes "depth=" ++ d.0.0) ∷ (codes "first=" ++ f.0.0) ∷ (codes "nodes=" ++ n.0.0) ∷ (codes "words=" ++ a.0.0) ∷ (codes "tries=" ++ r.0.0) ∷ ws) end.0 in
     subst (λ w. words ≡ size_words-of 2 w) end.1 text
 
 -- the numbers are spelled so
@@ -160,15 +163,15 @@ told-found w s h =
     let r = ok_bind (or_else kind.Number (number_of w.tries)) _ s a.2 in
     let told : Sizes = record { groups = g.0; max_depth = d.0; first_depth = f.0; nodes = n.0; words = a.0; tries = r.0 } in
     let found : Spells w told = record {
-          groups = (decimal-number_of w.groups g.0 (ok_or_else kind.Number (number_of w.groups) g.0 g.1)).0;
-          max_depth = (decimal-number_of w.max_depth d.0 (ok_or_else kind.Number (number_of w.max_depth) d.0 d.1)).0;
-          first_depth = (decimal-number_of w.first_depth f.0 (ok_or_else kind.Number (number_of w.first_depth) f.0 f.1)).0;
-          nodes = (decimal-number_of w.nodes n.0 (ok_or_else kind.Number (number_of w.nodes) n.0 n.1)).0;
-          words = (decimal-number_of w.words a.0 (ok_or_else kind.Number (number_of w.words) a.0 a.1)).0;
-          tries = (decimal-number_of w.tries r.0 (ok_or_else kind.Number (number_of w.tries) r.0 r.1)).0;
-          first_small = (decimal-number_of w.first_depth f.0 (ok_or_else kind.Number (number_of w.first_depth) f.0 f.1)).1;
-          nodes_small = (decimal-number_of w.nodes n.0 (ok_or_else kind.Number (number_of w.nodes) n.0 n.1)).1;
-        } in
+      groups = (decimal-number_of w.groups g.0 (ok_or_else kind.Number (number_of w.groups) g.0 g.1)).0;
+      max_depth = (decimal-number_of w.max_depth d.0 (ok_or_else kind.Number (number_of w.max_depth) d.0 d.1)).0;
+      first_depth = (decimal-number_of w.first_depth f.0 (ok_or_else kind.Number (number_of w.first_depth) f.0 f.1)).0;
+      nodes = (decimal-number_of w.nodes n.0 (ok_or_else kind.Number (number_of w.nodes) n.0 n.1)).0;
+      words = (decimal-number_of w.words a.0 (ok_or_else kind.Number (number_of w.words) a.0 a.1)).0;
+      tries = (decimal-number_of w.tries r.0 (ok_or_else kind.Number (number_of w.tries) r.0 r.1)).0;
+      first_small = (decimal-number_of w.first_depth f.0 (ok_or_else kind.Number (number_of w.first_depth) f.0 f.1)).1;
+      nodes_small = (decimal-number_of w.nodes n.0 (ok_or_else kind.Number (number_of w.nodes) n.0 n.1)).1;
+    } in
     subst (Spells w) (ok_same told s r.2) found
 
 -- what line 2 says
@@ -202,8 +205,10 @@ table-line version line s least most h =
   where
     zero : (n : ℕ) (w : List ℕ) → w ≡ codes "0" → decimal n ≡ w → n < 2 ^ 64 → n ≡ 0
     zero n w e d small = decimal_injective n 0 small (omega arith) (d ∙ e ∙ sym (decimal_digit 0 (omega arith)))
+
     one : (n : ℕ) (w : List ℕ) → w ≡ codes "1" → decimal n ≡ w → n < 2 ^ 64 → n ≡ 1
     one n w e d small = decimal_injective n 1 small (omega arith) (d ∙ e ∙ sym (decimal_digit 1 (omega arith)))
+
     by : (t : Bool) → nat_eq version 1 ≡ t → (w : SizeWords) (s : Sizes) → size_words version (parts_at 32 line) ≡ Ok w → Spells w s → are_sizes version s ≡ true → IsTable version line s
     by true e w s read spells sizes =
         let v = eqb-true version 1 e in
@@ -261,11 +266,11 @@ version_line-found parts p h =
     let version = version-found a.0.0 b.0 (on_line-found 1 (version_of a.0.0) b.0 b.1) in
     let whole : ℕ × List (List ℕ) = (b.0, a.0.1) in
     let found : IsVersionLine parts whole = record {
-          text = line.0 ∙ ap (λ l. l ++ 10 ∷ join_with_byte 10 a.0.1) (sym version.0);
-          short = subst (λ l. length l ≤ 4096) (sym version.0) line.1;
-          least = version.1;
-          most = version.2;
-        } in
+      text = line.0 ∙ ap (λ l. l ++ 10 ∷ join_with_byte 10 a.0.1) (sym version.0);
+      short = subst (λ l. length l ≤ 4096) (sym version.0) line.1;
+      least = version.1;
+      most = version.2;
+    } in
     subst (IsVersionLine parts) (ok_same whole p b.2) found
 
 -- line 2 with what is behind it
@@ -282,10 +287,10 @@ table_line-found version parts p least most h =
     let table = table-line version a.0.0 b.0 least most (on_line-found 2 (table_of version a.0.0) b.0 b.1) in
     let whole : Sizes × List (List ℕ) = (b.0, a.0.1) in
     let found : IsTableLine version parts whole = record {
-          text = line.0 ∙ ap (λ l. l ++ 10 ∷ join_with_byte 10 a.0.1) (sym table.text);
-          short = subst (λ l. length l ≤ 4096) (sym table.text) line.1;
-          table = record { text = refl; sizes = table.sizes; first = table.first; nodes = table.nodes };
-        } in
+      text = line.0 ∙ ap (λ l. l ++ 10 ∷ join_with_byte 10 a.0.1) (sym table.text);
+      short = subst (λ l. length l ≤ 4096) (sym table.text) line.1;
+      table = record { text = refl; sizes = table.sizes; first = table.first; nodes = table.nodes };
+    } in
     subst (IsTableLine version parts) (ok_same whole p b.2) found
 
 -- a line in front of a text
@@ -313,20 +318,20 @@ script-parts bytes t short h =
     let known = subst facts same (one.short, one.least, one.most, two.short, two.table) in
     let content : rest.new ≡ content_words body.0 = sym rest.content in
     let found : IsTold bytes told = record {
-          text = sym (join_with_byte-slice_split 10 bytes) ∙ lines
-            ∙ ap (λ r. line_of (header_words head.0.version) ++ 10 ∷ r)
-                (in_front_of (table_words head.0.version head.0.sizes) (content_words body.0 ++ end_words ∷ []) _ (rest.text ∙ ap (λ ws. text_of (ws ++ end_words ∷ [])) content))
-            ∙ in_front_of (header_words head.0.version) (table_words head.0.version head.0.sizes ∷ content_words body.0 ++ end_words ∷ []) _ refl;
-          version_least = known.1;
-          version_most = known.2;
-          sizes = known.4.sizes;
-          first = known.4.first;
-          nodes = known.4.nodes;
-          content = rest.valid;
-          some = rest.some;
-          short_lines = (known.0, (known.3, subst (λ ws. AllByRecursion (λ ws. length (line_of ws) ≤ 4096) (ws ++ end_words ∷ [])) content rest.short));
-          short = short;
-        } in
+      text = sym (join_with_byte-slice_split 10 bytes) ∙ lines
+          ∙ ap (λ r. line_of (header_words head.0.version) ++ 10 ∷ r)
+          (in_front_of (table_words head.0.version head.0.sizes) (content_words body.0 ++ end_words ∷ []) _ (rest.text ∙ ap (λ ws. text_of (ws ++ end_words ∷ [])) content))
+          ∙ in_front_of (header_words head.0.version) (table_words head.0.version head.0.sizes ∷ content_words body.0 ++ end_words ∷ []) _ refl;
+      version_least = known.1;
+      version_most = known.2;
+      sizes = known.4.sizes;
+      first = known.4.first;
+      nodes = known.4.nodes;
+      content = rest.valid;
+      some = rest.some;
+      short_lines = (known.0, (known.3, subst (λ ws. AllByRecursion (λ ws. length (line_of ws) ≤ 4096) (ws ++ end_words ∷ [])) content rest.short));
+      short = short;
+    } in
     subst (IsTold bytes) (ok_same told t body.2) found
 
 -- what is read is a script, and its text
@@ -340,18 +345,20 @@ script-found bytes t h = by (nat_lt 4194304 (length bytes)) refl
 -- a script that is told, with its geometry
 pub script-told : (bytes : List ℕ) (s : ScriptValue) → script_of bytes ≡ Ok (told_of s) → IsScript s × (bytes ≡ text_of_script s)
 script-told bytes s h =
-    let t = script-found bytes (told_of s) h in
-    (record {
-      version_least = t.version_least;
-      version_most = t.version_most;
-      sizes = t.sizes;
-      first = t.first;
-      nodes = t.nodes;
-      content = t.content;
-      some = one s.content.clients t.some;
-      short_lines = t.short_lines;
-      short = subst (λ bs. length bs ≤ 4194304) t.text t.short;
-    }, t.text)
+    let t = script-found bytes (told_of s) h in (
+      record {
+        version_least = t.version_least;
+        version_most = t.version_most;
+        sizes = t.sizes;
+        first = t.first;
+        nodes = t.nodes;
+        content = t.content;
+        some = one s.content.clients t.some;
+        short_lines = t.short_lines;
+        short = subst (λ bs. length bs ≤ 4194304) t.text t.short;
+      },
+      t.text,
+    )
   where
     one : (cs : List (List ℕ × List Call)) → is_empty cs ≡ false → 1 ≤ length cs
     one [] e = absurd (true≢false e)

@@ -132,6 +132,7 @@ first-line most n r line parts c more v short others (Ok None) e h =
     ended : (t : Bool) → is_all (more ∷ parts) ≡ t → (if t then Ok r.content else Err (let at : Refusal = (n + 1, kind.End) in at)) ≡ Ok c → (is_all (more ∷ parts) ≡ true) × (r.content ≡ c)
     ended true q g = (q, ok_same r.content c g)
     ended false q g = absurd (err_ok (let at : Refusal = (n + 1, kind.End) in at) c g)
+
     alone : (p : List ℕ) (ps : List (List ℕ)) → is_all (p ∷ ps) ≡ true → p ∷ ps ≡ [] ∷ []
     alone p [] q = ap (λ x. x ∷ []) (nothing p q)
     alone p (x ∷ xs) q = absurd (true≢false (sym q))

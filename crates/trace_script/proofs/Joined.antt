@@ -23,7 +23,7 @@ table_1-written s = joined-4 (codes "table groups=" ++ decimal s.groups) (codes 
 pub table_2-written : (s : Sizes) → table_text_2 s ≡ line_text (table_words 2 s)
 table_2-written s =
     joined-6 (codes "table groups=" ++ decimal s.groups) (codes " depth=" ++ decimal s.max_depth) (codes " first=" ++ decimal s.first_depth) (codes " nodes=" ++ decimal s.nodes)
-      (codes " words=" ++ decimal s.words) (codes " tries=" ++ decimal s.tries)
+    (codes " words=" ++ decimal s.words) (codes " tries=" ++ decimal s.tries)
 
 -- words behind a first one, each behind a space
 pub line_of-cons : (first : List ℕ) (words : List (List ℕ)) → join_with_byte 32 (first ∷ words) ≡ first ++ flat_map (λ w. 32 ∷ w) words
@@ -83,3 +83,7 @@ whole_text s =
 
 four_parts : (old a b c d : List ℕ) → old ++ a ++ b ++ c ++ d ≡ old ++ (a ++ b ++ c ++ d)
 four_parts old a b c d = simp append_assoc refl
+
+-- items of lines, one line more
+pub joined_items : (a b c : List Item) → a ++ (b ++ c) ≡ (a ++ b) ++ c
+joined_items a b c = sym (append_assoc a b c)

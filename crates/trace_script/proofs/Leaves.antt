@@ -37,6 +37,7 @@ hex_digit-hex_value c v h = by (is_digit c) refl
         let w = within-parts 97 102 c p.0 in
         let same : 87 + v ≡ c = omega (arith, p.1, w.0) in
         (omega (arith, p.1, w.0, w.1), cond-false _ _ _ (le-ltb v 10 (omega (arith, p.1, w.0))) ∙ same)
+
     by : (t : Bool) → is_digit c ≡ t → (v < 16) × (hex_digit v ≡ c)
     by true e =
         let some : Some (c - 48) ≡ Some v = sym (cond-true _ _ _ e) ∙ h in
@@ -101,9 +102,9 @@ hex_text-hex_bytes (h ∷ l ∷ digits) bs e =
     let down : parts.0 % 16 ≡ pair.1 = ap (λ n. n % 16) (sym byte) ∙ mod-mul-add pair.0 16 pair.1 low.0 in
     let small : parts.0 < 256 = omega (arith, byte, high.0, low.0) in
     let text : hex_text (parts.0 ∷ parts.1) ≡ h ∷ l ∷ digits =
-          ap (λ n. hex_digit n ∷ hex_digit (parts.0 % 16) ∷ hex_text parts.1) up
-          ∙ ap (λ n. hex_digit pair.0 ∷ hex_digit n ∷ hex_text parts.1) down
-          ∙ ap (λ d. d ∷ hex_digit pair.1 ∷ hex_text parts.1) high.1
-          ∙ ap (λ d. h ∷ d ∷ hex_text parts.1) low.1
-          ∙ ap (λ ds. h ∷ l ∷ ds) others.0 in
+    ap (λ n. hex_digit n ∷ hex_digit (parts.0 % 16) ∷ hex_text parts.1) up
+    ∙ ap (λ n. hex_digit pair.0 ∷ hex_digit n ∷ hex_text parts.1) down
+    ∙ ap (λ d. d ∷ hex_digit pair.1 ∷ hex_text parts.1) high.1
+    ∙ ap (λ d. h ∷ d ∷ hex_text parts.1) low.1
+    ∙ ap (λ ds. h ∷ l ∷ ds) others.0 in
     subst (λ xs. (hex_text xs ≡ h ∷ l ∷ digits) × AllByRecursion (λ b. b < 256) xs) parts.4 (text, (small, others.1))

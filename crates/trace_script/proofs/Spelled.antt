@@ -39,11 +39,12 @@ numeral-parts w h =
   where
     positive : (n : ℕ) → nat_eq n 0 ≡ false → 0 < n
     positive n e = let other = eqb-false n 0 e in omega (arith, other)
+
     alone : 0 < length w → (nat_lt 1 (length w) && nat_eq (get_or w 0 0) 48) ≡ false → get_or w 0 0 ≡ 48 → length w ≡ 1
     alone some e zero_first = elim (cases_lt 1 (length w)) [
-        | inl more ↦ absurd (true≢false (sym (and_from _ _ (lt-ltb 1 (length w) more) (eq-eqb (get_or w 0 0) 48 zero_first)) ∙ e))
-        | inr less ↦ omega arith
-      ]
+      | inl more ↦ absurd (true≢false (sym (and_from _ _ (lt-ltb 1 (length w) more) (eq-eqb (get_or w 0 0) 48 zero_first)) ∙ e))
+      | inr less ↦ omega arith
+    ]
 
 -- a number that is read is spelled so
 pub decimal-number_of : (w : List ℕ) (n : ℕ) → number_of w ≡ Some n → (decimal n ≡ w) × (n < 2 ^ 64)
@@ -77,16 +78,17 @@ unfolding hex_number
 hex_number-hex_number_of w n h =
     let p = cond_some' _ _ n h in
     option_and_then_some eight_bytes_number (hex_bytes w) n p (λ bs read number.
-      let q = cond_some _ _ _ number in
-      let text = hex_text-hex_bytes w bs read in
-      let eight = eqb-true (length bs) 8 q.0 in
-      let fits : (i : ℕ) → get_or bs i 0 < 256 = byte_at bs text.1 in
-      let same = be_bytes_8 bs n eight fits (sym q.1) in
-      (ap hex_text same ∙ text.0, subst (λ m. m < 2 ^ 64) q.1 (omega (arith, fits 0, fits 1, fits 2, fits 3, fits 4, fits 5, fits 6, fits 7))))
+    let q = cond_some _ _ _ number in
+    let text = hex_text-hex_bytes w bs read in
+    let eight = eqb-true (length bs) 8 q.0 in
+    let fits : (i : ℕ) → get_or bs i 0 < 256 = byte_at bs text.1 in
+    let same = be_bytes_8 bs n eight fits (sym q.1) in
+    (ap hex_text same ∙ text.0, subst (λ m. m < 2 ^ 64) q.1 (omega (arith, fits 0, fits 1, fits 2, fits 3, fits 4, fits 5, fits 6, fits 7))))
   where
     cond_some' : (b : Bool) (o : Option ℕ) (n : ℕ) → cond b o None ≡ Some n → o ≡ Some n
     cond_some' true o n h = h
     cond_some' false o n h = absurd (none-some n h)
+
     byte_at : (bs : List ℕ) → AllByRecursion (λ b. b < 256) bs → (i : ℕ) → get_or bs i 0 < 256
     byte_at [] all i = omega arith
     byte_at (b ∷ bs) all zero = all.0
@@ -119,17 +121,19 @@ spelled-bytes_of w bs h = by (is_plain_text w) refl
         let percent = cond_some' (nat_eq c 37) (option_and_then not_plain (hex_bytes digits)) e in
         let first = eqb-true c 37 percent.0 in
         option_and_then_some not_plain (hex_bytes digits) bs percent.1 (λ cs read other.
-          let plain = cond_none (is_plain_text cs) cs other in
-          let text = hex_text-hex_bytes digits cs read in
-          let whole = cond-false _ _ _ plain.0 ∙ ap (λ ds. 37 ∷ ds) text.0 ∙ ap (λ b. b ∷ digits) (sym first) in
-          subst (λ bs. (spelled bs ≡ c ∷ digits) × AllByRecursion (λ b. b < 256) bs) plain.1 (whole, text.1))
+        let plain = cond_none (is_plain_text cs) cs other in
+        let text = hex_text-hex_bytes digits cs read in
+        let whole = cond-false _ _ _ plain.0 ∙ ap (λ ds. 37 ∷ ds) text.0 ∙ ap (λ b. b ∷ digits) (sym first) in
+        subst (λ bs. (spelled bs ≡ c ∷ digits) × AllByRecursion (λ b. b < 256) bs) plain.1 (whole, text.1))
       where
         cond_some' : (b : Bool) (o : Option (List ℕ)) → cond b o None ≡ Some bs → (b ≡ true) × (o ≡ Some bs)
         cond_some' true o h = (refl, h)
         cond_some' false o h = absurd (none-some bs h)
+
         cond_none : (b : Bool) (cs : List ℕ) → cond b None (Some cs) ≡ Some bs → (b ≡ false) × (cs ≡ bs)
         cond_none true cs h = absurd (none-some bs h)
         cond_none false cs h = (refl, same_Some cs bs h)
+
     by : (t : Bool) → is_plain_text w ≡ t → (spelled bs ≡ w) × AllByRecursion (λ b. b < 256) bs
     by true e =
         let same = same_Some w bs (sym (cond-true _ _ _ e) ∙ h) in
@@ -158,11 +162,11 @@ listed_bytes bs h = recursion_from_All (λ b. b < 256) bs h
 pub spelled-key_of : (w k : List ℕ) → key_of w ≡ Some k → (spelled k ≡ w) × IsKey k
 spelled-key_of w k h =
     option_and_then_some (λ k. if is_within 1 64 (length k) then Some k else None) (bytes_of w) k h (λ bs read fits.
-      let p = cond_some (is_within 1 64 (length bs)) bs k fits in
-      let text = spelled-bytes_of w bs read in
-      let q = and_parts _ _ p.0 in
-      let key : (spelled bs ≡ w) × IsKey bs = (text.0, (record { least = leb-true 1 (length bs) q.0; most = leb-true (length bs) 64 q.1 }, bytes_listed bs text.1)) in
-      subst (λ k. (spelled k ≡ w) × IsKey k) p.1 key)
+    let p = cond_some (is_within 1 64 (length bs)) bs k fits in
+    let text = spelled-bytes_of w bs read in
+    let q = and_parts _ _ p.0 in
+    let key : (spelled bs ≡ w) × IsKey bs = (text.0, (record { least = leb-true 1 (length bs) q.0; most = leb-true (length bs) 64 q.1 }, bytes_listed bs text.1)) in
+    subst (λ k. (spelled k ≡ w) × IsKey k) p.1 key)
 
 -- and a key that is spelled is read
 pub key_of-spelled : (k : List ℕ) → IsKey k → key_of (spelled k) ≡ Some k
@@ -174,10 +178,10 @@ key_of-spelled k h =
 pub spelled-value_of : (w v : List ℕ) → value_of w ≡ Some v → (spelled v ≡ w) × IsValue v
 spelled-value_of w v h =
     option_and_then_some (λ v. if nat_le (length v) 1024 then Some v else None) (bytes_of w) v h (λ bs read fits.
-      let p = cond_some (nat_le (length bs) 1024) bs v fits in
-      let text = spelled-bytes_of w bs read in
-      let value : (spelled bs ≡ w) × IsValue bs = (text.0, (leb-true (length bs) 1024 p.0, bytes_listed bs text.1)) in
-      subst (λ v. (spelled v ≡ w) × IsValue v) p.1 value)
+    let p = cond_some (nat_le (length bs) 1024) bs v fits in
+    let text = spelled-bytes_of w bs read in
+    let value : (spelled bs ≡ w) × IsValue bs = (text.0, (leb-true (length bs) 1024 p.0, bytes_listed bs text.1)) in
+    subst (λ v. (spelled v ≡ w) × IsValue v) p.1 value)
 
 pub value_of-spelled : (v : List ℕ) → IsValue v → value_of (spelled v) ≡ Some v
 value_of-spelled v h =

@@ -127,19 +127,19 @@ module _ (most : ℕ) (r : Reading) (h : IsReading most r) where
       let c : Content = with_hash r.content b.0 b.1 in
       let entry : List ℕ × ℕ = (b.0, b.1) in
       let text : content_words c ≡ content_words r.content ++ hash_words entry ∷ [] =
-            subst (λ cs. lines_of (r.content.hashes ++ entry ∷ []) cs r.content.stops r.content.schedules ≡ lines_of r.content.hashes cs r.content.stops r.content.schedules ++ hash_words entry ∷ []) (sym none)
-              (subst (λ ss. lines_of (r.content.hashes ++ entry ∷ []) [] ss r.content.schedules ≡ lines_of r.content.hashes [] ss r.content.schedules ++ hash_words entry ∷ []) (sym others.0)
-                (subst (λ is. lines_of (r.content.hashes ++ entry ∷ []) [] [] is ≡ lines_of r.content.hashes [] [] is ++ hash_words entry ∷ []) (sym others.1) (text-hash r.content.hashes entry))) in
+      subst (λ cs. lines_of (r.content.hashes ++ entry ∷ []) cs r.content.stops r.content.schedules ≡ lines_of r.content.hashes cs r.content.stops r.content.schedules ++ hash_words entry ∷ []) (sym none)
+      (subst (λ ss. lines_of (r.content.hashes ++ entry ∷ []) [] ss r.content.schedules ≡ lines_of r.content.hashes [] ss r.content.schedules ++ hash_words entry ∷ []) (sym others.0)
+      (subst (λ is. lines_of (r.content.hashes ++ entry ∷ []) [] [] is ≡ lines_of r.content.hashes [] [] is ++ hash_words entry ∷ []) (sym others.1) (text-hash r.content.hashes entry))) in
       let new : Reading = record r { content = c } in
       let valid : IsReading most new = record {
-            hashes = Each-push IsHash [] r.content.hashes entry h.hashes b.4;
-            clients = h.clients;
-            counted = h.counted;
-            calls = h.calls;
-            stops = h.stops;
-            schedules = h.schedules;
-            order = h.order;
-          } in
+        hashes = Each-push IsHash [] r.content.hashes entry h.hashes b.4;
+        clients = h.clients;
+        counted = h.counted;
+        calls = h.calls;
+        stops = h.stops;
+        schedules = h.schedules;
+        order = h.order;
+      } in
       let took : Took most r new (codes "hash" ∷ words) = record { text = text ∙ ap (λ ws. content_words r.content ++ (codes "hash" ∷ ws) ∷ []) (sym b.2); valid = valid } in
       subst (λ s. Took most r s (codes "hash" ∷ words)) (ap (λ d. record r { content = d }) (sym b.3) ∙ a.2) took
 
@@ -155,18 +155,18 @@ module _ (most : ℕ) (r : Reading) (h : IsReading most r) where
       let line : List (List ℕ) = codes "client" ∷ b.0 ∷ [] in
       let more : List (List ℕ × List Call) = r.content.clients ++ (b.0, []) ∷ [] in
       let text : content_words c ≡ content_words r.content ++ line ∷ [] =
-            subst (λ ss. lines_of r.content.hashes more ss r.content.schedules ≡ lines_of r.content.hashes r.content.clients ss r.content.schedules ++ line ∷ []) (sym no_stop)
-              (subst (λ is. lines_of r.content.hashes more [] is ≡ lines_of r.content.hashes r.content.clients [] is ++ line ∷ []) (sym no_schedule) (text-client r.content.hashes r.content.clients b.0)) in
+      subst (λ ss. lines_of r.content.hashes more ss r.content.schedules ≡ lines_of r.content.hashes r.content.clients ss r.content.schedules ++ line ∷ []) (sym no_stop)
+      (subst (λ is. lines_of r.content.hashes more [] is ≡ lines_of r.content.hashes r.content.clients [] is ++ line ∷ []) (sym no_schedule) (text-client r.content.hashes r.content.clients b.0)) in
       let new : Reading = record r { content = c } in
       let valid : IsReading most new = record {
-            hashes = h.hashes;
-            clients = Each-push (IsClient most) [] r.content.clients (b.0, []) h.clients b.3;
-            counted = h.counted ∙ sym (count-client r.content.clients b.0);
-            calls = h.calls;
-            stops = subst (λ ss. Each (IsStop (length more)) [] ss) (sym no_stop) tt;
-            schedules = subst (λ is. AllByRecursion (IsSchedule (length more)) is) (sym no_schedule) tt;
-            order = λ none. (no_stop, no_schedule);
-          } in
+        hashes = h.hashes;
+        clients = Each-push (IsClient most) [] r.content.clients (b.0, []) h.clients b.3;
+        counted = h.counted ∙ sym (count-client r.content.clients b.0);
+        calls = h.calls;
+        stops = subst (λ ss. Each (IsStop (length more)) [] ss) (sym no_stop) tt;
+        schedules = subst (λ is. AllByRecursion (IsSchedule (length more)) is) (sym no_schedule) tt;
+        order = λ none. (no_stop, no_schedule);
+      } in
       let took : Took most r new (codes "client" ∷ words) = record { text = text ∙ ap (λ ws. content_words r.content ++ (codes "client" ∷ ws) ∷ []) (sym b.1); valid = valid } in
       subst (λ s. Took most r s (codes "client" ∷ words)) (ap (λ d. record r { content = d }) (sym b.2) ∙ a.2) took
 
@@ -183,17 +183,17 @@ module _ (most : ℕ) (r : Reading) (h : IsReading most r) where
       let more : List (List ℕ × List Call) = called r.content.clients call in
       let same_length = length-called r.content.clients call in
       let text : content_words c ≡ content_words r.content ++ call_words call ∷ [] =
-            subst (λ ss. lines_of r.content.hashes more ss r.content.schedules ≡ lines_of r.content.hashes r.content.clients ss r.content.schedules ++ call_words call ∷ []) (sym no_stop)
-              (subst (λ is. lines_of r.content.hashes more [] is ≡ lines_of r.content.hashes r.content.clients [] is ++ call_words call ∷ []) (sym no_schedule) (text-call r.content.hashes r.content.clients call some)) in
+      subst (λ ss. lines_of r.content.hashes more ss r.content.schedules ≡ lines_of r.content.hashes r.content.clients ss r.content.schedules ++ call_words call ∷ []) (sym no_stop)
+      (subst (λ is. lines_of r.content.hashes more [] is ≡ lines_of r.content.hashes r.content.clients [] is ++ call_words call ∷ []) (sym no_schedule) (text-call r.content.hashes r.content.clients call some)) in
       let valid : IsReading most (after_call r call) = record {
-            hashes = h.hashes;
-            clients = Each-called most [] r.content.clients call valid_call h.clients;
-            counted = ap (λ n. n + 1) h.counted ∙ sym (count-called r.content.clients call some);
-            calls = omega (arith, room);
-            stops = subst (λ ss. Each (IsStop (length more)) [] ss) (sym no_stop) tt;
-            schedules = subst (λ is. AllByRecursion (IsSchedule (length more)) is) (sym no_schedule) tt;
-            order = λ none. (no_stop, no_schedule);
-          } in
+        hashes = h.hashes;
+        clients = Each-called most [] r.content.clients call valid_call h.clients;
+        counted = ap (λ n. n + 1) h.counted ∙ sym (count-called r.content.clients call some);
+        calls = omega (arith, room);
+        stops = subst (λ ss. Each (IsStop (length more)) [] ss) (sym no_stop) tt;
+        schedules = subst (λ is. AllByRecursion (IsSchedule (length more)) is) (sym no_schedule) tt;
+        order = λ none. (no_stop, no_schedule);
+      } in
       subst (λ s. Took most r s (call_words call)) e (record { text = text; valid = valid })
 
   -- `stop NAME N`
@@ -207,18 +207,18 @@ module _ (most : ℕ) (r : Reading) (h : IsReading most r) where
       let c : Content = with_stop r.content b.0 b.1 in
       let line : List (List ℕ) = stop_words (names_of r.content) entry in
       let text : content_words c ≡ content_words r.content ++ line ∷ [] =
-            subst (λ is. lines_of r.content.hashes r.content.clients (r.content.stops ++ entry ∷ []) is ≡ lines_of r.content.hashes r.content.clients r.content.stops is ++ line ∷ []) (sym no_schedule)
-              (text-stop r.content.hashes r.content.clients r.content.stops entry) in
+      subst (λ is. lines_of r.content.hashes r.content.clients (r.content.stops ++ entry ∷ []) is ≡ lines_of r.content.hashes r.content.clients r.content.stops is ++ line ∷ []) (sym no_schedule)
+      (text-stop r.content.hashes r.content.clients r.content.stops entry) in
       let new : Reading = record r { content = c } in
       let valid : IsReading most new = record {
-            hashes = h.hashes;
-            clients = h.clients;
-            counted = h.counted;
-            calls = h.calls;
-            stops = Each-push (IsStop (length r.content.clients)) [] r.content.stops entry h.stops b.4;
-            schedules = h.schedules;
-            order = λ none. absurd (true≢false (sym none ∙ tests.0));
-          } in
+        hashes = h.hashes;
+        clients = h.clients;
+        counted = h.counted;
+        calls = h.calls;
+        stops = Each-push (IsStop (length r.content.clients)) [] r.content.stops entry h.stops b.4;
+        schedules = h.schedules;
+        order = λ none. absurd (true≢false (sym none ∙ tests.0));
+      } in
       let took : Took most r new (codes "stop" ∷ words) = record { text = text ∙ ap (λ ws. content_words r.content ++ (codes "stop" ∷ ws) ∷ []) (sym b.2); valid = valid } in
       subst (λ s. Took most r s (codes "stop" ∷ words)) (ap (λ d. record r { content = d }) (sym b.3) ∙ a.2) took
 
@@ -232,14 +232,14 @@ module _ (most : ℕ) (r : Reading) (h : IsReading most r) where
       let new : Reading = record r { content = c } in
       let push : (xs : List (List Item)) → AllByRecursion (IsSchedule (length r.content.clients)) xs → AllByRecursion (IsSchedule (length r.content.clients)) (xs ++ b.0 ∷ []) = pushed (IsSchedule (length r.content.clients)) b.0 b.3 in
       let valid : IsReading most new = record {
-            hashes = h.hashes;
-            clients = h.clients;
-            counted = h.counted;
-            calls = h.calls;
-            stops = h.stops;
-            schedules = push r.content.schedules h.schedules;
-            order = λ none. absurd (true≢false (sym none ∙ tests.0));
-          } in
+        hashes = h.hashes;
+        clients = h.clients;
+        counted = h.counted;
+        calls = h.calls;
+        stops = h.stops;
+        schedules = push r.content.schedules h.schedules;
+        order = λ none. absurd (true≢false (sym none ∙ tests.0));
+      } in
       let text = text-schedule r.content.hashes r.content.clients r.content.stops r.content.schedules b.0 in
       let took : Took most r new (codes "schedule" ∷ words) = record { text = text ∙ ap (λ ws. content_words r.content ++ (codes "schedule" ∷ ws) ∷ []) (sym b.1); valid = valid } in
       subst (λ s. Took most r s (codes "schedule" ∷ words)) (ap (λ d. record r { content = d }) (sym b.2) ∙ a.2) took
@@ -276,6 +276,7 @@ module _ (most : ℕ) (r : Reading) (h : IsReading most r) where
     where
       no : None ≡ Some s → ⊥
       no q = cc
+
       end : (t : Bool) → (if t then Ok None else Err kind.Word) ≡ Ok (Some s) → ⊥
       end true q = no (ok_same None (Some s) q)
       end false q = err_ok kind.Word (Some s) q

@@ -1,14 +1,17 @@
 //! What the lines behind the first two say.
-ghost use Rattle.std.specs.Prelude.{◌≡◌, ◌<◌, ◌≤◌, ◌++◌, ◌∷◌, ℕ, [], false, IsTrue, IsSome, Some, None, length, map, OnOk, IfSome, is_some};
+ghost use Rattle.std.specs.Prelude.{◌≡◌, ◌<◌, ◌≤◌, ◌++◌, ◌∷◌, ℕ, [], false, IsTrue, IsSome, Some, None, length, map, IfOk, OnOk, IfSome, is_some};
 ghost use Rattle.key_hash.specs.Placing.{is_listed};
 ghost use Rattle.trace_script.specs.Content.{no_content, names_of, calls_at, client_at, stop_at, with_hash, with_client, with_call, called, client_view, with_stop, with_schedule};
 ghost use Rattle.trace_script.specs.ScriptText.{name_at};
+ghost use Rattle.std.specs.List.{flat_map};
+ghost use Rattle.trace_script.specs.Valid.{Each, IsHash};
 ghost use Rattle.trace_script.specs.Rules.{is_empty};
 
 use crate::name::Name;
 use indexmap::IndexMap;
+use key_hash::Listed;
 use kv_block::Key;
-use map_model::{Call, Calls, Items};
+use map_model::{Call, Calls, Item, Items};
 use std::alloc::{AllocError, Global};
 use std::marker::Model;
 
@@ -99,6 +102,31 @@ impl Body {
         self.schedules.as_slice()
     }
 
+    // The items of all schedule lines, in order.
+    #[tactic(auto, using(crate::proofs::Joined::joined_items))]
+    pub fn items(&self, alloc: Global) -> Result<Items, AllocError>
+        ensures { IfOk result (λ items. items.items ≡ flat_map (λ line. line) self.now.schedules) }
+    {
+        let mut items = Items::new(alloc);
+        for line in self.schedules() {
+            append(&mut items, line.as_slice())?;
+        }
+        Ok(items)
+    }
+
+    // The listed hashes as a placer.
+    pub fn placer(&self, alloc: Global) -> Result<Listed, AllocError>
+        requires { Each IsHash [] self.now.hashes }
+        ensures { IfOk result (λ listed. listed ≡ self.now.hashes) }
+    {
+        let mut listed = Listed::new(alloc)?;
+        let mut hashes = self.hashes.iter();
+        while let Some((key, hash)) = hashes.next() {
+            let _ = listed.add(*key, *hash)?;
+        }
+        Ok(listed)
+    }
+
     pub fn name(&self, client: u32) -> &[u8]
         requires { client < length self.now.clients }
         ensures { result.now ≡ name_at (names_of self.now) client }
@@ -185,4 +213,13 @@ fn call_last(clients: &mut IndexMap<Name, Calls>, call: Call) -> Result<(), Allo
         return Ok(());
     };
     calls.push(call)
+}
+
+fn append(items: &mut Items, more: &[Item]) -> Result<(), AllocError>
+    ensures { OnOk result (items.new.items ≡ items.old.items ++ more.now) }
+{
+    for item in more {
+        items.push(*item)?;
+    }
+    Ok(())
 }

@@ -1,13 +1,15 @@
 //! Scripts.
-ghost use Rattle.std.specs.Prelude.{◌≡◌, ◌≤◌, ◌<◌, length};
+ghost use Rattle.std.specs.Prelude.{◌≡◌, ◌≤◌, ◌<◌, length, IfOk};
 ghost use Rattle.trace_script.specs.Content.{names_of, calls_at, stop_at};
 ghost use Rattle.trace_script.specs.ScriptText.{name_at, item_client};
-ghost use Rattle.std.specs.List.{AllByRecursion};
+ghost use Rattle.std.specs.List.{AllByRecursion, flat_map};
 ghost use Rattle.trace_script.specs.Valid.{IsScript};
 
 use crate::body::Body;
-use map_model::Calls;
+use key_hash::Listed;
+use map_model::{Calls, Items};
 use node_words::Geometry;
+use std::alloc::{AllocError, Global};
 use std::marker::Model;
 
 /// A script: a version, the table's geometry and tries, the listed hashes, the clients with their names, calls and
@@ -110,6 +112,20 @@ impl Script {
     {
         self.body.stop_at(client)
     }
+    /// The listed hashes, as a placer.
+    pub fn placer(&self, alloc: Global) -> Result<Listed, AllocError>
+        ensures { IfOk result (λ listed. listed ≡ self.now.content.hashes) }
+    {
+        self.body.placer(alloc)
+    }
+
+    /// The items of all schedule lines, in order.
+    pub fn items(&self, alloc: Global) -> Result<Items, AllocError>
+        ensures { IfOk result (λ items. items.items ≡ flat_map (λ line. line) self.now.content.schedules) }
+    {
+        self.body.items(alloc)
+    }
+
     /// What is known of every script: the numbers and the lines are within the limits, no key is listed twice, no two
     /// clients have one name, and so on.
     pub fn is_script(&self)

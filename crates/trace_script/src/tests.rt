@@ -2,7 +2,8 @@ use super::*;
 use map_model::{MapMachine, Nexts, Reply};
 use std::test::*;
 
-const SMALLEST: &str = "race 1\ntable groups=1 depth=0 words=100 tries=3\nclient a\ninsert k 1\nsearch k\nsearch j\nend\n";
+const SMALLEST: &str =
+    "race 1\ntable groups=1 depth=0 words=100 tries=3\nclient a\ninsert k 1\nsearch k\nsearch j\nend\n";
 
 fn refusal(rt: &HostRuntime, script: &str) -> Option<(u64, ScriptKind)> {
     match read_script(rt.alloc(), script.as_bytes()) {
@@ -19,15 +20,51 @@ fn refusals(rt: HostRuntime) -> Result<(), Fail> {
         ("race", 1, ScriptKind::End),
         ("race 3\n", 1, ScriptKind::Header),
         ("race 1\r\n", 1, ScriptKind::Header),
-        ("race 1\ntable groups=1 depth=2 words=49 tries=3\n", 2, ScriptKind::Table),
-        ("race 1\ntable groups=1 depth=2 words=049 tries=3\n", 2, ScriptKind::Number),
-        ("race 1\ntable groups= depth=2 words=100 tries=3\n", 2, ScriptKind::Number),
-        ("race 1\ntable groups=1  depth=2 words=100 tries=3\n", 2, ScriptKind::Table),
-        ("race 1\ntable groups=1 depth=13 words=100000 tries=3\n", 2, ScriptKind::Table),
-        ("race 1\ntable groups=1 depth=0 words=100 tries=65\n", 2, ScriptKind::Table),
-        ("race 1\ntable groups=1 depth=0 words=18446744073709551616 tries=3\n", 2, ScriptKind::Number),
-        ("race 2\ntable groups=1 depth=0 words=100 tries=3\n", 2, ScriptKind::Table),
-        ("race 2\ntable groups=1 depth=1 first=0 nodes=2 words=201 tries=3\n", 2, ScriptKind::Table),
+        (
+            "race 1\ntable groups=1 depth=2 words=49 tries=3\n",
+            2,
+            ScriptKind::Table,
+        ),
+        (
+            "race 1\ntable groups=1 depth=2 words=049 tries=3\n",
+            2,
+            ScriptKind::Number,
+        ),
+        (
+            "race 1\ntable groups= depth=2 words=100 tries=3\n",
+            2,
+            ScriptKind::Number,
+        ),
+        (
+            "race 1\ntable groups=1  depth=2 words=100 tries=3\n",
+            2,
+            ScriptKind::Table,
+        ),
+        (
+            "race 1\ntable groups=1 depth=13 words=100000 tries=3\n",
+            2,
+            ScriptKind::Table,
+        ),
+        (
+            "race 1\ntable groups=1 depth=0 words=100 tries=65\n",
+            2,
+            ScriptKind::Table,
+        ),
+        (
+            "race 1\ntable groups=1 depth=0 words=18446744073709551616 tries=3\n",
+            2,
+            ScriptKind::Number,
+        ),
+        (
+            "race 2\ntable groups=1 depth=0 words=100 tries=3\n",
+            2,
+            ScriptKind::Table,
+        ),
+        (
+            "race 2\ntable groups=1 depth=1 first=0 nodes=2 words=201 tries=3\n",
+            2,
+            ScriptKind::Table,
+        ),
     ] {
         assert_eq!(rt; refusal(&rt, script), Some((line, kind)), "{script}");
     }
@@ -81,7 +118,9 @@ fn refused_lines(rt: HostRuntime) -> Result<(), Fail> {
 /// The report of the smallest script.
 #[test]
 fn smallest_report(rt: HostRuntime) -> Result<(), Fail> {
-    let script = read_script(rt.alloc(), SMALLEST.as_bytes()).ok().ok_or("a script")?;
+    let script = read_script(rt.alloc(), SMALLEST.as_bytes())
+        .ok()
+        .ok_or("a script")?;
     assert_eq!(rt; script.clients(), 1);
     let mut lines = Lines::new(rt.alloc());
     let mut map = MapMachine::new(rt.alloc());
@@ -96,8 +135,16 @@ fn smallest_report(rt: HostRuntime) -> Result<(), Fail> {
             tag: Tag::Point(point),
         })?;
     }
-    let report = report_text(rt.alloc(), Mode::Replay, &script, &lines, &map, Nexts::one(50))?;
-    let wanted = "race 1 replay\na 1 insert k 1 inserted @0\na 2 search k found 1 @1\na 3 search j missing @1\nmap k 1\nend calls=3 open=0 changes=1 next=50\n";
+    let report = report_text(
+        rt.alloc(),
+        Mode::Replay,
+        &script,
+        &lines,
+        &map,
+        Nexts::one(50),
+    )?;
+    let wanted =
+        "race 1 replay\na 1 insert k 1 inserted @0\na 2 search k found 1 @1\na 3 search j missing @1\nmap k 1\nend calls=3 open=0 changes=1 next=50\n";
     assert_eq!(rt; report.as_slice(), wanted.as_bytes());
     Ok(())
 }

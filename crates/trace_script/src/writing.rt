@@ -6,9 +6,9 @@ ghost use Rattle.trace_script.specs.Content.{names_of, sizes_of, client_view};
 ghost use Rattle.trace_script.specs.ScriptText.{table_text_1, table_text_2, hash_words, call_words, client_words, stop_words, item_word, schedule_words, content_words, header_words, table_words, name_at, item_client, spaced_items, line_of, line_text, text_of, text_of_script};
 
 use crate::body::Body;
+use crate::name::Name;
 use crate::script::Script;
 use crate::text::Text;
-use crate::name::Name;
 use indexmap::IndexMap;
 use kv_block::Key;
 use map_model::{Call, Calls, Item, Items};

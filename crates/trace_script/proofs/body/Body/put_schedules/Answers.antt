@@ -9,4 +9,4 @@ use Rattle.trace_script.proofs.body.Body.put_schedules.Goals as goal
 pub put_schedule_line-requires : goal.put_schedule_line-requires
 put_schedule_line-requires c =
     first_has (AllByRecursion (λ (item : Item). item_client item < length c.args.self.now.clients)) (λ (items : RoomyList Item). items.items) c.schedules-items-items.result.now c.loop-items.items-index c.items-item.result
-      (omega arith) c.items-item.is c.loop-items.invariant.known
+    (omega arith) c.items-item.is c.loop-items.invariant.known
