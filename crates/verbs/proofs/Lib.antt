@@ -1,0 +1,4 @@
+mod Progs
+mod Growth
+mod Safes
+mod Placed

@@ -1,0 +1,4 @@
+pub mod Programs
+pub mod Logs
+pub mod Safe
+pub mod Plain
