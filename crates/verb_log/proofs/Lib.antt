@@ -4,3 +4,5 @@ pub mod Linked
 pub mod Looks
 pub mod FirstTable
 pub mod Indexed
+pub mod HeadRows
+pub mod Judged

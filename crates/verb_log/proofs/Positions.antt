@@ -1,7 +1,8 @@
 -- The positions of a log are its prefixes.
-use Rattle.std.proofs.Common.{◌≡◌, ℕ, zero, suc, ◌+◌, ◌≤◌, List, [], ◌∷◌, ◌++◌, length, reverse, take, drop, Some, refl, sym, ap, subst, ◌∙◌, arith, append_assoc, le_refl, add-one}
+use Rattle.std.proofs.Common.{◌≡◌, ℕ, zero, suc, ◌+◌, ◌<◌, ◌≤◌, get_or, List, [], ◌∷◌, ◌++◌, length, reverse, take, drop, Some, refl, sym, ap, subst, ◌∙◌, arith, append_assoc, le_refl, add-one}
 use Rattle.std.specs.Prelude.{slice_get}
 use Rattle.std.proofs.lemmas.List.{append-nil, reverse-reverse, length-reverse, take-append-drop, take-take, take-append-le, take_all, length-take-le}
+use Rattle.std.proofs.lemmas.Option.{slice_get_read}
 use Rattle.node_words.specs.declared.geometry.Geometry.{Geometry}
 use Rattle.verb_log.specs.declared.entry.Entry.{Entry}
 use Rattle.verb_log.specs.Tables.{Past, Before, here, later}
@@ -83,3 +84,13 @@ WellMade-take g l n m = IsMade-before g (reverse (take n l)) (reverse l) (Before
 
 pub WellMade-at : (g : Geometry) (l : List Entry) (n : ℕ) (e : Entry) → slice_get l n ≡ Some e → WellMade g l → Follows g (reverse (take n l)) e
 WellMade-at g l n e h m = (subst (IsMade g) (position_next l n e h) (WellMade-take g l (n + 1) m)).0
+
+-- a place of a list has an item
+pub item_there : {A : Type 0} (l : List A) (n : ℕ) → n < length l → (x : A) × (slice_get l n ≡ Some x)
+item_there [] n h = absurd (omega arith)
+item_there (y ∷ l) zero h = (y, refl)
+item_there (y ∷ l) (suc n) h = item_there l n (omega arith)
+
+-- an entry of a well made log stands below the memory's words
+pub entry_within : (g : Geometry) (l : List Entry) (n : ℕ) (e : Entry) → WellMade g l → n < length l → e ≡ get_or l n e → e.at < g.words
+entry_within g l n e made within read = (WellMade-at g l n e (slice_get_read l (length l) n e refl within read) made).within

@@ -7,3 +7,6 @@ pub mod Recorded
 pub mod Links
 pub mod PlainRoles
 pub mod Kept
+pub mod Contents
+pub mod HeadKinds
+pub mod PlainKinds

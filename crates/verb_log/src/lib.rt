@@ -7,6 +7,8 @@
 
 pub mod entry;
 pub mod kind;
+mod judging;
+mod kinds;
 mod links;
 mod log;
 mod role;

@@ -1,4 +1,5 @@
 ghost use Rattle.std.specs.Prelude.{◌≡◌, ℕ, ◌+◌, ◌<◌, ◌≤◌, [], ◌∷◌, ◌++◌, length, reverse, take, Some, slice_get, slice_index, IfSome, OnOk, OnErr, IsOk};
+ghost use Rattle.node_words.specs.Addresses.{table_words};
 ghost use Rattle.verb_log.specs.Tables.{links, table_of, role};
 ghost use Rattle.verb_log.specs.Replay.{replay, WellMade};
 ghost use Rattle.verb_log.specs.Links.{link_of, table_then};
@@ -82,7 +83,8 @@ impl Log {
     /// The entry of this number, counted from 0, which is below `len`.
     pub fn entry(&self, n: u64) -> Entry
         requires { n < length self.now.entries }
-        ensures { slice_get self.now.entries n ≡ Some result }
+        ensures there { slice_get self.now.entries n ≡ Some result }
+        ensures within { result.at < self.now.geometry.words }
     {
         self.entries[n as usize]
     }
@@ -173,5 +175,12 @@ impl Log {
             Some(table) => table_role(table, at - table),
             None => outer_role(&self.geometry, at),
         }
+    }
+
+    /// The words of a table.
+    pub(crate) fn table_words(&self) -> u64
+        ensures { result ≡ table_words self.now.geometry }
+    {
+        self.geometry.table_words()
     }
 }
