@@ -1,5 +1,5 @@
 -- The kinds on headers are rows of one table.
-use Rattle.std.proofs.Common.{◌≡◌, ℕ, Option, Some, None, refl, sym, ap}
+use Rattle.std.proofs.Common.{◌≡◌, ℕ, Some, None, refl, sym, ap}
 use Rattle.slot_word.specs.declared.heads.Head.{Head}
 use Rattle.slot_word.specs.Heads.{head_of}
 use Rattle.verb_log.specs.declared.kind.Kind.TheVariants.{Begin, Open, Close, Finish}

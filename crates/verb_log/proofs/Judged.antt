@@ -1,5 +1,5 @@
 -- How the kind of an entry is read from the log before it.
-use Rattle.std.proofs.Common.{◌≡◌, ℕ, ◌+◌, ◌<◌, ◌≤◌, List, [], ◌∷◌, length, reverse, take, Bool, true, false, not, ◌&&◌, ◌||◌, Option, Some, None, refl, sym, ap, subst, ◌∙◌, arith}
+use Rattle.std.proofs.Common.{◌≡◌, ℕ, ◌+◌, ◌<◌, List, ◌∷◌, reverse, take, Bool, true, false, ◌||◌, Option, Some, refl, sym, ap, ◌∙◌, arith}
 use Rattle.std.specs.Prelude.{slice_get}
 use Rattle.node_words.specs.declared.geometry.Geometry.{Geometry}
 use Rattle.node_words.specs.Roles.{Role as WordRole, NextWord, DepthWord, DirectoryWord, BirthWord, HeaderWord, LockWord, ReservedWord, ChildWord, BucketWord, SlotWord, HeapWord}
@@ -7,7 +7,7 @@ use Rattle.verb_log.specs.declared.entry.Entry.{Entry}
 use Rattle.verb_log.specs.declared.kind.Kind.{Kind}
 use Rattle.verb_log.specs.declared.role.Role.{Role}
 use Rattle.verb_log.specs.Tables.{Past, Before, here, later, role, moves_across, is_taken, publishes, is_published}
-use Rattle.verb_log.specs.Kinds.{kind, kind_of_role}
+use Rattle.verb_log.specs.Kinds.{kind_of_role}
 use Rattle.verb_log.specs.Replay.{kind_of_some, kind_at}
 use Rattle.verb_log.specs.PlainRoles.{plain_role}
 use Rattle.verb_log.specs.PlainKinds.{kind_of_plain}

@@ -1,5 +1,4 @@
 ghost use Rattle.std.specs.Prelude.{◌≡◌, Some};
-
 ghost use Rattle.verb_log.specs.Decoded.{Body, Empty, Full, content, header, header_with};
 ghost use Rattle.verb_log.specs.Tables.{is_among, covers};
 ghost use Rattle.verb_log.specs.Kinds.{slot_kind, header_kind, bucket_kind, lock_kind};
@@ -109,7 +108,8 @@ fn head_kind(old: &Head, new: &Head, starts: Kind, stops: Kind) -> Option<Kind>
 {
     match (old.state, new.state) {
         (State::Plain, State::Splitting) => (new.depth == old.depth).then_some(starts),
-        (State::Splitting, State::Plain) => (u64::from(new.depth) == u64::from(old.depth) + 1).then_some(stops),
+        (State::Splitting, State::Plain) => (u64::from(new.depth)
+            == u64::from(old.depth) + 1).then_some(stops),
         (State::Filling, State::Plain) => (new.depth == old.depth).then_some(Kind::Ripen),
         _ => None,
     }

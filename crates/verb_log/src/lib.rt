@@ -6,8 +6,8 @@
 #![tactic(auto)]
 
 pub mod entry;
-pub mod kind;
 mod judging;
+pub mod kind;
 mod kinds;
 mod links;
 mod log;

@@ -1,4 +1,3 @@
-use Rattle.std.proofs.Common.{length, ◌<◌}
 use Rattle.verb_log.proofs.Positions.{entry_within}
 use Rattle.verb_log.proofs.log.Log.entry.Goals as goal
 
