@@ -6,3 +6,5 @@ pub mod FirstTable
 pub mod Indexed
 pub mod HeadRows
 pub mod Judged
+pub mod BlockWords
+pub mod ChangeRows

@@ -10,3 +10,4 @@ pub mod Kept
 pub mod Contents
 pub mod HeadKinds
 pub mod PlainKinds
+pub mod Blocks

@@ -86,7 +86,7 @@ impl Log {
         let entry = self.entry(n);
         match self.role_at(n, entry.at) {
             Role::Slot => covers(entry.new, at),
-            Role::Child => entry.new != 0 && is_among(entry.new, self.table_words(), at),
+            Role::Child => entry.new != 0 && is_among(entry.new, self.geometry().table_words(), at),
             _ => false,
         }
     }

@@ -3,7 +3,7 @@ ghost use Rattle.verb_log.specs.Decoded.{Body, Empty, Full, content, header, hea
 ghost use Rattle.verb_log.specs.Tables.{is_among, covers};
 ghost use Rattle.verb_log.specs.Kinds.{slot_kind, header_kind, bucket_kind, lock_kind};
 ghost use Rattle.verb_log.specs.HeadKinds.{head_kind};
-ghost use Rattle.verb_log.specs.Contents.{body_of, shown};
+ghost use Rattle.verb_log.specs.Contents.{IsRead, body_of, shown};
 
 use crate::entry::Entry;
 use crate::kind::Kind;
@@ -23,7 +23,8 @@ pub(crate) enum Content {
 /// What a word says in a slot.
 #[tactic(auto, using(std::proofs::lemmas::Bool::Decides::nat_tests), unfolding(crate::specs::Decoded::content))]
 pub(crate) fn read_content(word: u64) -> Content
-    ensures { shown result ≡ content word }
+    ensures content { shown result ≡ content word }
+    ensures fits { IsRead result }
 {
     if word == 0 {
         return Content::Empty;

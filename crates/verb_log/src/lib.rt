@@ -5,6 +5,8 @@
 //! header pack, and on `kv_block` for blocks and changes. Its rule is written in docs/DEFINITIONS.md, "Logs".
 #![tactic(auto)]
 
+mod blocks;
+mod changing;
 pub mod entry;
 mod judging;
 pub mod kind;

@@ -1,5 +1,4 @@
 ghost use Rattle.std.specs.Prelude.{◌≡◌, ℕ, ◌+◌, ◌<◌, ◌≤◌, [], ◌∷◌, ◌++◌, length, reverse, take, Some, slice_get, slice_index, IfSome, OnOk, OnErr, IsOk};
-ghost use Rattle.node_words.specs.Addresses.{table_words};
 ghost use Rattle.verb_log.specs.Tables.{links, table_of, role};
 ghost use Rattle.verb_log.specs.Replay.{replay, WellMade};
 ghost use Rattle.verb_log.specs.Links.{link_of, table_then};
@@ -177,10 +176,11 @@ impl Log {
         }
     }
 
-    /// The words of a table.
-    pub(crate) fn table_words(&self) -> u64
-        ensures { result ≡ table_words self.now.geometry }
+    /// The sizes of the memory.
+    pub(crate) fn geometry(&self) -> &Geometry
+        ensures value { result.now ≡ self.now.geometry }
+        ensures made { WellMade self.now.geometry self.now.entries }
     {
-        self.geometry.table_words()
+        &self.geometry
     }
 }
