@@ -8,3 +8,4 @@ pub mod HeadRows
 pub mod Judged
 pub mod BlockWords
 pub mod ChangeRows
+pub mod Rows

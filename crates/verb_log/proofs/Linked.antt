@@ -6,13 +6,14 @@ use Rattle.std.proofs.lemmas.Option.{slice_get_within}
 use Rattle.std.proofs.lemmas.Bool.Decides.{nat_tests}
 use Rattle.node_words.specs.declared.geometry.Geometry.{Geometry}
 use Rattle.node_words.specs.Addresses.{table_words}
-use Rattle.node_words.specs.Roles.{first_table_of}
+use Rattle.node_words.specs.Roles.{first_table_of, role_in}
 use Rattle.node_words.proofs.FirstTables.{first_in}
 use Rattle.verb_log.specs.declared.entry.Entry.{Entry}
 use Rattle.verb_log.specs.Tables.{Past, is_among, or_else, links, linked_by, table_of, role, Before, here, later}
 use Rattle.verb_log.specs.Links.{Link, older, link_of, table_then}
+use Rattle.verb_log.specs.Laws.{RolesStay}
 use Rattle.verb_log.proofs.InOrder.{reverse_cons}
-use Rattle.verb_log.proofs.Positions.{Before-prefix, length-position, position_take, get_left, get_last}
+use Rattle.verb_log.proofs.Positions.{Before-prefix, Before-take, length-position, position_take, get_left, get_last}
 
 -- the oldest link is an older one, or the last entry's own
 link_cases : (b : Bool) (m t : ℕ) (o : Option Link) (k : Link) → older o (cond b (Some (record { number = m; table = t })) None) ≡ Some k → (o ≡ Some k) ⊎ ((m ≡ k.number) × (t ≡ k.table))
@@ -100,3 +101,13 @@ table_low g (e ∷ past) a t h =
       | inl old ↦ table_low g past a t old
       | inr own ↦ linked_low g past e a t own
     ]
+
+-- a table of an address stays its table
+pub table_stays : (g : Geometry) (p q : Past) (a t : ℕ) → Before p q → table_of g p a ≡ Some t → table_of g q a ≡ Some t
+table_stays g p q' a t here h = h
+table_stays g p (e ∷ q) a t (later b) h = ap (λ (o : Option ℕ). or_else o (linked_by g e (role g q e.at) a)) (table_stays g p q a t b h)
+
+pub roles_stay : RolesStay
+roles_stay g log n m a t h is =
+    let later_on = table_stays g (reverse (take n log)) (reverse (take m log)) a t (Before-take log n m h) is in
+    (later_on, ap (role_in g a) (later_on ∙ sym is))

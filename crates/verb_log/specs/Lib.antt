@@ -11,3 +11,5 @@ pub mod Contents
 pub mod HeadKinds
 pub mod PlainKinds
 pub mod Blocks
+pub mod Fits
+pub mod Laws

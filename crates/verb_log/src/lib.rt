@@ -11,6 +11,7 @@ pub mod entry;
 mod judging;
 pub mod kind;
 mod kinds;
+pub mod laws;
 mod links;
 mod log;
 mod role;

@@ -1,0 +1,25 @@
+-- What the laws of kinds and roles say.
+use Rattle.std.specs.Prelude.{◌≡◌, ◌↔◌, ℕ, ◌≤◌, List, take, reverse, Some, None}
+use Rattle.node_words.specs.declared.geometry.Geometry.{Geometry}
+use Rattle.node_words.specs.Roles.{Role}
+use Rattle.verb_log.specs.declared.entry.Entry.{Entry}
+use Rattle.verb_log.specs.declared.kind.Kind.{Kind}
+use Rattle.verb_log.specs.Tables.{Past, table_of, role}
+use Rattle.verb_log.specs.Kinds.{kind_of_role}
+use Rattle.verb_log.specs.Fits.{Fits}
+
+-- the kind is the one whose row fits
+abbrev pub RowsAreKinds : Type 0
+RowsAreKinds = (g : Geometry) (past : Past) (e : Entry) (r : Role) (k : Kind) → (kind_of_role g past e r ≡ Some k) ↔ Fits g past e r k
+
+-- there is no kind exactly where no row fits
+abbrev pub NoRowNoKind : Type 0
+NoRowNoKind = (g : Geometry) (past : Past) (e : Entry) (r : Role) → (kind_of_role g past e r ≡ None) ↔ ((k : Kind) → Fits g past e r k → ⊥)
+
+-- at most one row fits an entry, on a word of any role
+abbrev pub OneRow : Type 0
+OneRow = (g : Geometry) (past : Past) (e : Entry) (r : Role) (j k : Kind) → Fits g past e r j → Fits g past e r k → j ≡ k
+
+-- an address that stands in a table at a position of a log stands in that table, with the same role, at each later one
+abbrev pub RolesStay : Type 0
+RolesStay = (g : Geometry) (log : List Entry) (n m a t : ℕ) → n ≤ m → table_of g (reverse (take n log)) a ≡ Some t → (table_of g (reverse (take m log)) a ≡ Some t) × (role g (reverse (take m log)) a ≡ role g (reverse (take n log)) a)
