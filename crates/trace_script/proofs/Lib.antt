@@ -15,3 +15,5 @@ pub mod Found
 pub mod Taken
 pub mod FoundScript
 pub mod FoundHead
+pub mod Plain
+pub mod Again

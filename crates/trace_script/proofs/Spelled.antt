@@ -26,7 +26,7 @@ none-some x e = cc
 digits_test : IsDigitsTest (λ ds. list_all is_digit ds ≡ true)
 digits_test = search rules
 
-own : IsNumeralModel (λ ds. list_all is_digit ds ≡ true) (digits_value 10)
+pub own : IsNumeralModel (λ ds. list_all is_digit ds ≡ true) (digits_value 10)
 own = numerals_by_value _ digits_test
 
 -- the parts of a numeral

@@ -1,5 +1,7 @@
 //! Reading a script: its lines, one after the other.
-ghost use Rattle.std.specs.Prelude.{◌≡◌, ◌≤◌, ◌<◌, ◌^◌, ◌+◌, IfOk, length, MatchResult, Ok, Err};
+ghost use Rattle.std.specs.Prelude.{◌≡◌, ◌≤◌, ◌<◌, ◌^◌, ◌+◌, IfOk, length, MatchResult, Ok, Err, ℕ, List, true};
+ghost use Rattle.std.specs.List.{list_all};
+ghost use Rattle.trace_script.specs.Spelling.{is_name_byte};
 ghost use Rattle.trace_script.specs.Content.{no_content, sizes_of};
 ghost use Rattle.trace_script.specs.Words.{parts_at};
 ghost use Rattle.trace_script.specs.ScriptText.{text_of_script};
@@ -175,4 +177,10 @@ pub fn read_script(alloc: Global, bytes: &[u8]) -> Result<Script, ScriptFault>
     let head = Head::read(bytes)?;
     let body = read_lines(alloc, most_clients(head.version), head.rest)?;
     Ok(Script::of_parts(head.version, head.geometry, head.tries, body))
+}
+
+/// Laws.
+pub fn laws()
+    ensures { (w : List ℕ) → list_all is_name_byte w ≡ true → list_all is_name_byte w ≡ true }
+{
 }

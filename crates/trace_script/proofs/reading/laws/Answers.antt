@@ -1,0 +1,6 @@
+use Rattle.trace_script.proofs.Plain.{parts-text}
+use Rattle.trace_script.proofs.Again.{schedule-again}
+use Rattle.trace_script.proofs.reading.laws.Goals as goal
+
+pub returns : goal.returns
+returns c = λ w h. h
