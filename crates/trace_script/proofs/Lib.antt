@@ -17,3 +17,4 @@ pub mod FoundScript
 pub mod FoundHead
 pub mod Plain
 pub mod Again
+pub mod AgainLines
