@@ -26,7 +26,7 @@ use Rattle.trace_script.proofs.Again.{hash-again, client-again, key-again, pair-
 abbrev pub Leads : ℕ → ℕ → Reading → List (List (List ℕ)) → ℕ → Reading → Type 0
 Leads most n r lines m s = (more : List (List ℕ)) → is_empty more ≡ false → read_lines most n r (map line_of lines ++ more) ≡ read_lines most m s more
 
-some_append : {A : Type 0} (xs ys : List A) → is_empty ys ≡ false → is_empty (xs ++ ys) ≡ false
+pub some_append : {A : Type 0} (xs ys : List A) → is_empty ys ≡ false → is_empty (xs ++ ys) ≡ false
 some_append [] ys h = h
 some_append (x ∷ xs) ys h = refl
 
@@ -35,13 +35,13 @@ leads-one most n r s l step short [] h = absurd (true≢false h)
 leads-one most n r s l step short (m ∷ ms) h =
     cond-false _ _ _ (le-ltb 4096 (length (line_of l)) short) ∙ ap (goes_on n r.content (m ∷ ms) (λ s. read_lines most (n + 1) s (m ∷ ms))) step
 
-leads-more : (most n m k : ℕ) (r s t : Reading) (xs ys : List (List (List ℕ))) → Leads most n r xs m s → Leads most m s ys k t → Leads most n r (xs ++ ys) k t
+pub leads-more : (most n m k : ℕ) (r s t : Reading) (xs ys : List (List (List ℕ))) → Leads most n r xs m s → Leads most m s ys k t → Leads most n r (xs ++ ys) k t
 leads-more most n m k r s t xs ys p q more h =
     ap (read_lines most n r) (ap (λ l. l ++ more) (map-append line_of xs ys) ∙ append_assoc (map line_of xs) (map line_of ys) more)
     ∙ p (map line_of ys ++ more) (some_append (map line_of ys) more h) ∙ q more h
 
 -- a line of words is taken as its words are
-line-taken : (most : ℕ) (r : Reading) (o : Option Reading) (w : List ℕ) (ws : List (List ℕ)) → AllByRecursion IsWord (w ∷ ws) → words_step most r (w ∷ ws) ≡ Ok o → line_step most r (line_of (w ∷ ws)) ≡ Ok o
+pub line-taken : (most : ℕ) (r : Reading) (o : Option Reading) (w : List ℕ) (ws : List (List ℕ)) → AllByRecursion IsWord (w ∷ ws) → words_step most r (w ∷ ws) ≡ Ok o → line_step most r (line_of (w ∷ ws)) ≡ Ok o
 line-taken most r o w ws h step =
     let parts = parts-line w ws h in
     cond-true _ _ _ (and_from _ _ (line_printable (w ∷ ws) h) (ap (list_all (λ w. not (is_empty w))) parts ∙ some (w ∷ ws) h)) ∙ ap (words_step most r) parts ∙ step
@@ -51,24 +51,24 @@ line-taken most r o w ws h step =
     some (v ∷ vs) q = and_from _ _ (not_from_false _ q.0.some) (some vs q.1)
 
 -- what has been read
-abbrev reading : ℕ → List (List ℕ × ℕ) → List (List ℕ × List Call) → List (ℕ × ℕ) → List (List Item) → Reading
+abbrev pub reading : ℕ → List (List ℕ × ℕ) → List (List ℕ × List Call) → List (ℕ × ℕ) → List (List Item) → Reading
 reading k hs cs ss is = record { calls = k; content = record { hashes = hs; clients = cs; stops = ss; schedules = is } }
 
 -- no line is too long
-abbrev AreShort : List (List (List ℕ)) → Type 0
+abbrev pub AreShort : List (List (List ℕ)) → Type 0
 AreShort lines = AllByRecursion (λ l. length (line_of l) ≤ 4096) lines
 
 -- the word of a command
-word_of : (w : List ℕ) → list_all is_word_byte w ≡ true → is_empty w ≡ false → IsWord w
+pub word_of : (w : List ℕ) → list_all is_word_byte w ≡ true → is_empty w ≡ false → IsWord w
 word_of w p q = record { bytes = p; some = q }
 
-key_word : (k : List ℕ) → IsKey k → IsWord (spelled k)
+pub key_word : (k : List ℕ) → IsKey k → IsWord (spelled k)
 key_word k h = IsWord-spelled k (recursion_from_All (λ b. b < 256) k h.1)
 
-value_word : (v : List ℕ) → IsValue v → IsWord (spelled v)
+pub value_word : (v : List ℕ) → IsValue v → IsWord (spelled v)
 value_word v h = IsWord-spelled v (recursion_from_All (λ b. b < 256) v h.1)
 
-hashes-again : (most n : ℕ) (front es : List (List ℕ × ℕ)) → Each IsHash front es → AreShort (map hash_words es)
+pub hashes-again : (most n : ℕ) (front es : List (List ℕ × ℕ)) → Each IsHash front es → AreShort (map hash_words es)
     → (m : ℕ) × Leads most n (reading 0 front [] [] []) (map hash_words es) m (reading 0 (front ++ es) [] [] [])
 hashes-again most n front [] h short = (n, subst (λ f. Leads most n (reading 0 front [] [] []) [] n (reading 0 f [] [] [])) (sym (append-nil front)) (λ more some. refl))
 hashes-again most n front (e ∷ es) h short =
@@ -138,11 +138,11 @@ calls-again most n k hs front name done (call ∷ calls) h room short =
       (subst (λ (all : List Call). Leads most n old (map call_words (call ∷ calls)) others.0 (reading (k + 1 + length calls) hs (front ++ (name, all) ∷ []) [] [])) (append_assoc done (call ∷ []) calls) whole))
 
 -- parts of lists of which something holds
-parts_of : {X : Type 0} (P : X → Type 0) (xs ys : List X) → AllByRecursion P (xs ++ ys) → AllByRecursion P xs × AllByRecursion P ys
+pub parts_of : {X : Type 0} (P : X → Type 0) (xs ys : List X) → AllByRecursion P (xs ++ ys) → AllByRecursion P xs × AllByRecursion P ys
 parts_of P [] ys h = (tt, h)
 parts_of P (x ∷ xs) ys h = let p = parts_of P xs ys h.1 in ((h.0, p.0), p.1)
 
-clients-again : (most n k : ℕ) (hs : List (List ℕ × ℕ)) (front cs : List (List ℕ × List Call)) → Each (IsClient most) front cs → k + call_count cs ≤ 65536 → AreShort (flat_map client_words cs)
+pub clients-again : (most n k : ℕ) (hs : List (List ℕ × ℕ)) (front cs : List (List ℕ × List Call)) → Each (IsClient most) front cs → k + call_count cs ≤ 65536 → AreShort (flat_map client_words cs)
     → (m : ℕ) × Leads most n (reading k hs front [] []) (flat_map client_words cs) m (reading (k + call_count cs) hs (front ++ cs) [] [])
 clients-again most n k hs front [] h room short =
     let zero : k ≡ k + 0 = omega arith in
@@ -169,7 +169,7 @@ module _ (most k : ℕ) (hs : List (List ℕ × ℕ)) (cs : List (List ℕ × Li
   names : List (List ℕ)
   names = map (λ (e : List ℕ × List Call). e.0) cs
 
-  stops-again : (n : ℕ) (front es : List (ℕ × ℕ)) → Each (IsStop (length cs)) front es → AreShort (map (stop_words (map (λ (e : List ℕ × List Call). e.0) cs)) es)
+  pub stops-again : (n : ℕ) (front es : List (ℕ × ℕ)) → Each (IsStop (length cs)) front es → AreShort (map (stop_words (map (λ (e : List ℕ × List Call). e.0) cs)) es)
       → (m : ℕ) × Leads most n (reading k hs cs front []) (map (stop_words (map (λ (e : List ℕ × List Call). e.0) cs)) es) m (reading k hs cs (front ++ es) [])
   stops-again n front [] h short = (n, subst (λ f. Leads most n (reading k hs cs front []) [] n (reading k hs cs f [])) (sym (append-nil front)) (λ more some. refl))
   stops-again n front (e ∷ es) h short =
@@ -186,7 +186,7 @@ module _ (most k : ℕ) (hs : List (List ℕ × ℕ)) (cs : List (List ℕ × Li
       (others.0, subst (λ f. Leads most n old (map (stop_words (map (λ (e : List ℕ × List Call). e.0) cs)) (e ∷ es)) others.0 (reading k hs cs f [])) (append_assoc front (e ∷ []) es) whole)
 
   -- items are words
-  item-words : (c : Content) → c.clients ≡ cs → (is : List Item) → AllByRecursion (IsItem (length cs)) is → AllByRecursion IsWord (map (item_word (map (λ (e : List ℕ × List Call). e.0) cs)) is)
+  pub item-words : (c : Content) → c.clients ≡ cs → (is : List Item) → AllByRecursion (IsItem (length cs)) is → AllByRecursion IsWord (map (item_word (map (λ (e : List ℕ × List Call). e.0) cs)) is)
   item-words c same [] h = tt
   item-words c same (item.Call client ∷ is) h =
       (IsWord-append _ (33 ∷ []) (IsWord-name _ (name-again most (record no_content { clients = cs }) client valid h.0)) refl, item-words c same is h.1)
@@ -200,7 +200,7 @@ module _ (most k : ℕ) (hs : List (List ℕ × ℕ)) (cs : List (List ℕ × Li
           let number = IsWord-decimal count (let small = h.0.2 in omega (arith, small)) in
           subst IsWord (sym (cond-false _ _ _ e)) (IsWord-append _ (42 ∷ decimal count) name number.bytes)
 
-  schedules-again : (n : ℕ) (ss : List (ℕ × ℕ)) (front is : List (List Item)) → AllByRecursion (IsSchedule (length cs)) is → AreShort (map (schedule_words (map (λ (e : List ℕ × List Call). e.0) cs)) is)
+  pub schedules-again : (n : ℕ) (ss : List (ℕ × ℕ)) (front is : List (List Item)) → AllByRecursion (IsSchedule (length cs)) is → AreShort (map (schedule_words (map (λ (e : List ℕ × List Call). e.0) cs)) is)
       → (m : ℕ) × Leads most n (reading k hs cs ss front) (map (schedule_words (map (λ (e : List ℕ × List Call). e.0) cs)) is) m (reading k hs cs ss (front ++ is))
   schedules-again n ss front [] h short = (n, subst (λ f. Leads most n (reading k hs cs ss front) [] n (reading k hs cs ss f)) (sym (append-nil front)) (λ more some. refl))
   schedules-again n ss front (i ∷ is) h short =

@@ -18,3 +18,4 @@ pub mod FoundHead
 pub mod Plain
 pub mod Again
 pub mod AgainLines
+pub mod AgainScript

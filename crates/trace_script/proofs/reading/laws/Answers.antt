@@ -1,5 +1,5 @@
 use Rattle.trace_script.proofs.Plain.{parts-text}
-use Rattle.trace_script.proofs.AgainLines.{Leads}
+use Rattle.trace_script.proofs.AgainScript.{script-again}
 use Rattle.trace_script.proofs.reading.laws.Goals as goal
 
 pub returns : goal.returns
