@@ -97,34 +97,36 @@ module _ (most : ℕ) (r : Reading) (some : is_empty r.content.clients ≡ false
       let words : AllByRecursion IsWord (call_words (Insert key value)) = (word_of (codes "insert") refl refl, (key_word key h.0, (value_word value h.1, tt))) in
       let told : List ℕ × List ℕ → Result Reading ScriptKind = λ (p : List ℕ × List ℕ). Ok (after_call r (Insert p.0 p.1)) in
       line-taken most r (Some (after_call r (Insert key value))) (codes "insert") (spelled key ∷ spelled value ∷ []) words
-        (ap (λ f. unless_fault f (going_on (insert_step r (spelled key ∷ spelled value ∷ [])))) placed ∙ ap (λ read. going_on (read >>= told)) (pair-again r.calls key value h.0 h.1 room))
+      (ap (λ f. unless_fault f (going_on (insert_step r (spelled key ∷ spelled value ∷ [])))) placed ∙ ap (λ read. going_on (read >>= told)) (pair-again r.calls key value h.0 h.1 room))
   call-taken (Search key) h =
       let words : AllByRecursion IsWord (call_words (Search key)) = (word_of (codes "search") refl refl, (key_word key h, tt)) in
       let told : List ℕ → Result Reading ScriptKind = λ key. Ok (after_call r (Search key)) in
       line-taken most r (Some (after_call r (Search key))) (codes "search") (spelled key ∷ []) words
-        (ap (λ f. unless_fault f (going_on (search_step r (spelled key ∷ [])))) placed ∙ ap (λ read. going_on (read >>= told)) (key-again r.calls key h room))
+      (ap (λ f. unless_fault f (going_on (search_step r (spelled key ∷ [])))) placed ∙ ap (λ read. going_on (read >>= told)) (key-again r.calls key h room))
   call-taken (Update key value) h =
       let words : AllByRecursion IsWord (call_words (Update key value)) = (word_of (codes "update") refl refl, (key_word key h.0, (value_word value h.1, tt))) in
       let told : List ℕ × List ℕ → Result Reading ScriptKind = λ (p : List ℕ × List ℕ). Ok (after_call r (Update p.0 p.1)) in
       line-taken most r (Some (after_call r (Update key value))) (codes "update") (spelled key ∷ spelled value ∷ []) words
-        (ap (λ f. unless_fault f (going_on (update_step r (spelled key ∷ spelled value ∷ [])))) placed ∙ ap (λ read. going_on (read >>= told)) (pair-again r.calls key value h.0 h.1 room))
+      (ap (λ f. unless_fault f (going_on (update_step r (spelled key ∷ spelled value ∷ [])))) placed ∙ ap (λ read. going_on (read >>= told)) (pair-again r.calls key value h.0 h.1 room))
   call-taken (Delete key) h =
       let words : AllByRecursion IsWord (call_words (Delete key)) = (word_of (codes "delete") refl refl, (key_word key h, tt)) in
       let told : List ℕ → Result Reading ScriptKind = λ key. Ok (after_call r (Delete key)) in
       line-taken most r (Some (after_call r (Delete key))) (codes "delete") (spelled key ∷ []) words
-        (ap (λ f. unless_fault f (going_on (delete_step r (spelled key ∷ [])))) placed ∙ ap (λ read. going_on (read >>= told)) (key-again r.calls key h room))
+      (ap (λ f. unless_fault f (going_on (delete_step r (spelled key ∷ [])))) placed ∙ ap (λ read. going_on (read >>= told)) (key-again r.calls key h room))
   call-taken (Resize key) h =
       let words : AllByRecursion IsWord (call_words (Resize key)) = (word_of (codes "resize") refl refl, (key_word key h, tt)) in
       let told : List ℕ → Result Reading ScriptKind = λ key. Ok (after_call r (Resize key)) in
       line-taken most r (Some (after_call r (Resize key))) (codes "resize") (spelled key ∷ []) words
-        (ap (λ f. unless_fault f (going_on (resize_step r (spelled key ∷ [])))) placed ∙ ap (λ read. going_on (read >>= told)) (key-again r.calls key h room))
+      (ap (λ f. unless_fault f (going_on (resize_step r (spelled key ∷ [])))) placed ∙ ap (λ read. going_on (read >>= told)) (key-again r.calls key h room))
 
 calls-again : (most n k : ℕ) (hs : List (List ℕ × ℕ)) (front : List (List ℕ × List Call)) (name : List ℕ) (done calls : List Call) → AllByRecursion IsCall calls → k + length calls ≤ 65536 → AreShort (map call_words calls)
     → (m : ℕ) × Leads most n (reading k hs (front ++ (name, done) ∷ []) [] []) (map call_words calls) m (reading (k + length calls) hs (front ++ (name, done ++ calls) ∷ []) [] [])
 calls-again most n k hs front name done [] h room short =
-    let zero : k ≡ k + 0 = omega arith in
-    (n, subst (λ (calls : List Call). Leads most n (reading k hs (front ++ (name, done) ∷ []) [] []) [] n (reading (k + 0) hs (front ++ (name, calls) ∷ []) [] [])) (sym (append-nil done))
-      (subst (λ j. Leads most n (reading k hs (front ++ (name, done) ∷ []) [] []) [] n (reading j hs (front ++ (name, done) ∷ []) [] [])) zero (λ more some. refl)))
+    let zero : k ≡ k + 0 = omega arith in (
+      n,
+      subst (λ (calls : List Call). Leads most n (reading k hs (front ++ (name, done) ∷ []) [] []) [] n (reading (k + 0) hs (front ++ (name, calls) ∷ []) [] [])) (sym (append-nil done))
+          (subst (λ j. Leads most n (reading k hs (front ++ (name, done) ∷ []) [] []) [] n (reading j hs (front ++ (name, done) ∷ []) [] [])) zero (λ more some. refl)),
+    )
 calls-again most n k hs front name done (call ∷ calls) h room short =
     let old = reading k hs (front ++ (name, done) ∷ []) [] [] in
     let new = reading (k + 1) hs (front ++ (name, done ++ call ∷ []) ∷ []) [] [] in
@@ -133,9 +135,11 @@ calls-again most n k hs front name done (call ∷ calls) h room short =
     let one = leads-one most n old new (call_words call) (taken ∙ ap (λ r. Ok (Some r)) same) short.0 in
     let others = calls-again most (n + 1) (k + 1) hs front name (done ++ call ∷ []) calls h.1 (omega arith) short.1 in
     let count : k + 1 + length calls ≡ k + length (call ∷ calls) = omega arith in
-    let whole = leads-more most n (n + 1) others.0 old new (reading (k + 1 + length calls) hs (front ++ (name, done ++ call ∷ [] ++ calls) ∷ []) [] []) (call_words call ∷ []) (map call_words calls) one others.1 in
-    (others.0, subst (λ j. Leads most n old (map call_words (call ∷ calls)) others.0 (reading j hs (front ++ (name, done ++ call ∷ calls) ∷ []) [] [])) count
-      (subst (λ (all : List Call). Leads most n old (map call_words (call ∷ calls)) others.0 (reading (k + 1 + length calls) hs (front ++ (name, all) ∷ []) [] [])) (append_assoc done (call ∷ []) calls) whole))
+    let whole = leads-more most n (n + 1) others.0 old new (reading (k + 1 + length calls) hs (front ++ (name, done ++ call ∷ [] ++ calls) ∷ []) [] []) (call_words call ∷ []) (map call_words calls) one others.1 in (
+      others.0,
+      subst (λ j. Leads most n old (map call_words (call ∷ calls)) others.0 (reading j hs (front ++ (name, done ++ call ∷ calls) ∷ []) [] [])) count
+          (subst (λ (all : List Call). Leads most n old (map call_words (call ∷ calls)) others.0 (reading (k + 1 + length calls) hs (front ++ (name, all) ∷ []) [] [])) (append_assoc done (call ∷ []) calls) whole),
+    )
 
 -- parts of lists of which something holds
 pub parts_of : {X : Type 0} (P : X → Type 0) (xs ys : List X) → AllByRecursion P (xs ++ ys) → AllByRecursion P xs × AllByRecursion P ys
@@ -145,9 +149,11 @@ parts_of P (x ∷ xs) ys h = let p = parts_of P xs ys h.1 in ((h.0, p.0), p.1)
 pub clients-again : (most n k : ℕ) (hs : List (List ℕ × ℕ)) (front cs : List (List ℕ × List Call)) → Each (IsClient most) front cs → k + call_count cs ≤ 65536 → AreShort (flat_map client_words cs)
     → (m : ℕ) × Leads most n (reading k hs front [] []) (flat_map client_words cs) m (reading (k + call_count cs) hs (front ++ cs) [] [])
 clients-again most n k hs front [] h room short =
-    let zero : k ≡ k + 0 = omega arith in
-    (n, subst (λ f. Leads most n (reading k hs front [] []) [] n (reading (k + 0) hs f [] [])) (sym (append-nil front))
-      (subst (λ j. Leads most n (reading k hs front [] []) [] n (reading j hs front [] [])) zero (λ more some. refl)))
+    let zero : k ≡ k + 0 = omega arith in (
+      n,
+      subst (λ f. Leads most n (reading k hs front [] []) [] n (reading (k + 0) hs f [] [])) (sym (append-nil front))
+          (subst (λ j. Leads most n (reading k hs front [] []) [] n (reading j hs front [] [])) zero (λ more some. refl)),
+    )
 clients-again most n k hs front (e ∷ es) h room short =
     let old = reading k hs front [] [] in
     let new = reading k hs (front ++ (e.0, []) ∷ []) [] [] in
@@ -161,9 +167,11 @@ clients-again most n k hs front (e ∷ es) h room short =
     let client = leads-more most n (n + 1) calls.0 old new with_calls (line ∷ []) (map call_words e.1) one calls.1 in
     let others = clients-again most calls.0 (k + length e.1) hs (front ++ e ∷ []) es h.1 (omega arith) split.1 in
     let count : k + length e.1 + call_count es ≡ k + call_count (e ∷ es) = omega arith in
-    let whole = leads-more most n calls.0 others.0 old with_calls (reading (k + length e.1 + call_count es) hs (front ++ e ∷ [] ++ es) [] []) (client_words e) (flat_map client_words es) client others.1 in
-    (others.0, subst (λ j. Leads most n old (flat_map client_words (e ∷ es)) others.0 (reading j hs (front ++ e ∷ es) [] [])) count
-      (subst (λ f. Leads most n old (flat_map client_words (e ∷ es)) others.0 (reading (k + length e.1 + call_count es) hs f [] [])) (append_assoc front (e ∷ []) es) whole))
+    let whole = leads-more most n calls.0 others.0 old with_calls (reading (k + length e.1 + call_count es) hs (front ++ e ∷ [] ++ es) [] []) (client_words e) (flat_map client_words es) client others.1 in (
+      others.0,
+      subst (λ j. Leads most n old (flat_map client_words (e ∷ es)) others.0 (reading j hs (front ++ e ∷ es) [] [])) count
+          (subst (λ f. Leads most n old (flat_map client_words (e ∷ es)) others.0 (reading (k + length e.1 + call_count es) hs f [] [])) (append_assoc front (e ∷ []) es) whole),
+    )
 
 module _ (most k : ℕ) (hs : List (List ℕ × ℕ)) (cs : List (List ℕ × List Call)) (valid : Each (IsClient most) [] cs) (some : is_empty cs ≡ false) where
   names : List (List ℕ)
@@ -177,8 +185,8 @@ module _ (most k : ℕ) (hs : List (List ℕ × ℕ)) (cs : List (List ℕ × Li
       let new = reading k hs cs (front ++ e ∷ []) [] in
       let line = stop_words (map (λ (e : List ℕ × List Call). e.0) cs) e in
       let step : words_step most old line ≡ Ok (Some new) =
-            ap (λ f. unless_fault f (going_on (content_step old (stop_step old.content (name_at (names_of old.content) e.0 ∷ decimal e.1 ∷ []))))) (cond-false _ _ _ some)
-            ∙ ap (λ read. going_on (content_step old read)) (stop-again most old.content e valid h.0) in
+      ap (λ f. unless_fault f (going_on (content_step old (stop_step old.content (name_at (names_of old.content) e.0 ∷ decimal e.1 ∷ []))))) (cond-false _ _ _ some)
+      ∙ ap (λ read. going_on (content_step old read)) (stop-again most old.content e valid h.0) in
       let words : AllByRecursion IsWord line = (word_of (codes "stop") refl refl, (IsWord-name _ (name-again most old.content e.0 valid h.0.0), (IsWord-decimal e.1 (let small = h.0.1 in omega (arith, small)), tt))) in
       let one = leads-one most n old new line (line-taken most old (Some new) (codes "stop") (name_at (names_of old.content) e.0 ∷ decimal e.1 ∷ []) words step) short.0 in
       let others = stops-again (n + 1) (front ++ e ∷ []) es h.1 short.1 in
@@ -209,8 +217,8 @@ module _ (most k : ℕ) (hs : List (List ℕ × ℕ)) (cs : List (List ℕ × Li
       let items = map (item_word (map (λ (e : List ℕ × List Call). e.0) cs)) i in
       let line = schedule_words (map (λ (e : List ℕ × List Call). e.0) cs) i in
       let step : words_step most old line ≡ Ok (Some new) =
-            ap (λ f. unless_fault f (going_on (content_step old (schedule_step old.content items)))) (cond-false _ _ _ some)
-            ∙ ap (λ read. going_on (content_step old read)) (schedule-again most old.content i valid h.0) in
+      ap (λ f. unless_fault f (going_on (content_step old (schedule_step old.content items)))) (cond-false _ _ _ some)
+      ∙ ap (λ read. going_on (content_step old read)) (schedule-again most old.content i valid h.0) in
       let words : AllByRecursion IsWord line = (word_of (codes "schedule") refl refl, item-words old.content refl i h.0.1) in
       let one = leads-one most n old new line (line-taken most old (Some new) (codes "schedule") items words step) short.0 in
       let others = schedules-again (n + 1) ss (front ++ i ∷ []) is h.1 short.1 in

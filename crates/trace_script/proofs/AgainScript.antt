@@ -19,7 +19,11 @@ use Rattle.trace_script.specs.Spelling.{is_within}
 use Rattle.trace_script.specs.Words.{parts_at, number_of}
 use Rattle.trace_script.specs.Content.{Content, ScriptValue, Sizes, sizes_of, no_content}
 use Rattle.trace_script.specs.ScriptText.{header_words, table_words, call_words, hash_words, client_words, stop_words, schedule_words, content_words, line_of, text_of, script_words, text_of_script}
-use Rattle.trace_script.specs.Gives.{told_of}
+use Rattle.trace_script.specs.Gives.{told_of, Reads}
+use Rattle.node_words.proofs.GeometryNumbers.{same_geometry}
+use Rattle.trace_script.specs.declared.fault.ScriptFault.{ScriptFault}
+use Rattle.trace_script.specs.declared.fault.ScriptFault.TheVariants as fault
+use Rattle.trace_script.proofs.Each.{ok_same, err_ok}
 use Rattle.trace_script.specs.Rules.{◌>>=◌, or_else, Reading, Refusal, is_empty, misplaced, unless_fault, words_step, line_step, goes_on, ending, read_lines, next_line, on_line, version_of, SizeWords, size_words, sizes_told, are_sizes, most_depth, most_clients, table_of, version_line, table_line, Head, head_of, Told, script_of}
 use Rattle.trace_script.specs.Valid.{Each, IsCall, IsHash, IsClient, IsStop, IsSchedule, IsContent, IsScript, call_count}
 use Rattle.trace_script.proofs.Spelled.{number_of-decimal}
@@ -62,11 +66,11 @@ content-again most c h some short =
 -- line 1
 version-again : (v : ℕ) → 1 ≤ v → v ≤ 2 → version_of (line_of (header_words v)) ≡ Ok v
 version-again v l h = elim (cases_eq v 1) [
-      | inl one ↦ subst (λ v. version_of (line_of (header_words v)) ≡ Ok v) (sym one) (ap (λ d. version_of (codes "race" ++ 32 ∷ d)) (decimal_digit 1 (omega arith)))
-      | inr other ↦
-          let two : 2 ≡ v = omega (arith, other) in
-          subst (λ v. version_of (line_of (header_words v)) ≡ Ok v) two (ap (λ d. version_of (codes "race" ++ 32 ∷ d)) (decimal_digit 2 (omega arith)))
-    ]
+  | inl one ↦ subst (λ v. version_of (line_of (header_words v)) ≡ Ok v) (sym one) (ap (λ d. version_of (codes "race" ++ 32 ∷ d)) (decimal_digit 1 (omega arith)))
+  | inr other ↦
+      let two : 2 ≡ v = omega (arith, other) in
+      subst (λ v. version_of (line_of (header_words v)) ≡ Ok v) two (ap (λ d. version_of (codes "race" ++ 32 ∷ d)) (decimal_digit 2 (omega arith)))
+]
 
 -- numbers that have no fault are below 2 ^ 64
 no_fault : (b : Bool) (f : GeometryFault) (o : Option GeometryFault) → is_none (if b then Some f else o) ≡ true → (b ≡ false) × (is_none o ≡ true)
@@ -144,18 +148,18 @@ told-again s h =
 -- the words of line 2
 size_words-again : (version : ℕ) (s : Sizes) → 1 ≤ version → version ≤ 2 → (version ≡ 1 → s.first_depth ≡ 0) → (version ≡ 1 → s.nodes ≡ 1) → size_words version (table_words version s) ≡ Ok (number_words s)
 size_words-again version s l h first nodes = elim (cases_eq version 1) [
-      | inl one ↦
-          let f = decimal_digit 0 (omega arith) in
-          let n = decimal_digit 1 (omega arith) in
-          let zero : codes "0" ≡ decimal s.first_depth = sym f ∙ ap decimal (sym (first one)) in
-          let unit : codes "1" ≡ decimal s.nodes = sym n ∙ ap decimal (sym (nodes one)) in
-          subst (λ v. size_words v (table_words v s) ≡ Ok (number_words s)) (sym one)
-            (ap (λ (x : List ℕ). Ok (let w : SizeWords = record { groups = decimal s.groups; max_depth = decimal s.max_depth; first_depth = x; nodes = codes "1"; words = decimal s.words; tries = decimal s.tries } in w)) zero
-            ∙ ap (λ (x : List ℕ). Ok (let w : SizeWords = record { groups = decimal s.groups; max_depth = decimal s.max_depth; first_depth = decimal s.first_depth; nodes = x; words = decimal s.words; tries = decimal s.tries } in w)) unit)
-      | inr other ↦
-          let two : 2 ≡ version = omega (arith, other) in
-          subst (λ v. size_words v (table_words v s) ≡ Ok (number_words s)) two refl
-    ]
+  | inl one ↦
+      let f = decimal_digit 0 (omega arith) in
+      let n = decimal_digit 1 (omega arith) in
+      let zero : codes "0" ≡ decimal s.first_depth = sym f ∙ ap decimal (sym (first one)) in
+      let unit : codes "1" ≡ decimal s.nodes = sym n ∙ ap decimal (sym (nodes one)) in
+      subst (λ v. size_words v (table_words v s) ≡ Ok (number_words s)) (sym one)
+      (ap (λ (x : List ℕ). Ok (let w : SizeWords = record { groups = decimal s.groups; max_depth = decimal s.max_depth; first_depth = x; nodes = codes "1"; words = decimal s.words; tries = decimal s.tries } in w)) zero
+      ∙ ap (λ (x : List ℕ). Ok (let w : SizeWords = record { groups = decimal s.groups; max_depth = decimal s.max_depth; first_depth = decimal s.first_depth; nodes = x; words = decimal s.words; tries = decimal s.tries } in w)) unit)
+  | inr other ↦
+      let two : 2 ≡ version = omega (arith, other) in
+      subst (λ v. size_words v (table_words v s) ≡ Ok (number_words s)) two refl
+]
 
 -- each word of line 2 is one
 sizes-words : (version : ℕ) (s : Sizes) → AreSmall s → AllByRecursion IsWord (table_words version s)
@@ -163,13 +167,23 @@ sizes-words version s h = by (nat_eq version 1)
   where
     labelled : (label : List ℕ) (n : ℕ) → IsWord label → n < 2 ^ 64 → IsWord (label ++ decimal n)
     labelled label n w small = IsWord-append label (decimal n) w (IsWord-decimal n small).bytes
+
     last : AllByRecursion IsWord ((codes "words=" ++ decimal s.words) ∷ (codes "tries=" ++ decimal s.tries) ∷ [])
     last = (labelled (codes "words=") s.words (word_of (codes "words=") refl refl) h.words, (labelled (codes "tries=") s.tries (word_of (codes "tries=") refl refl) h.tries, tt))
+
     by : (t : Bool) → AllByRecursion IsWord (codes "table" ∷ (codes "groups=" ++ decimal s.groups) ∷ (codes "depth=" ++ decimal s.max_depth)
         ∷ ((if t then [] else (codes "first=" ++ decimal s.first_depth) ∷ (codes "nodes=" ++ decimal s.nodes) ∷ []) ++ (codes "words=" ++ decimal s.words) ∷ (codes "tries=" ++ decimal s.tries) ∷ []))
     by true = (word_of (codes "table") refl refl, (labelled (codes "groups=") s.groups (word_of (codes "groups=") refl refl) h.groups, (labelled (codes "depth=") s.max_depth (word_of (codes "depth=") refl refl) h.max_depth, last)))
-    by false = (word_of (codes "table") refl refl, (labelled (codes "groups=") s.groups (word_of (codes "groups=") refl refl) h.groups, (labelled (codes "depth=") s.max_depth (word_of (codes "depth=") refl refl) h.max_depth,
-        (labelled (codes "first=") s.first_depth (word_of (codes "first=") refl refl) h.first_depth, (labelled (codes "nodes=") s.nodes (word_of (codes "nodes=") refl refl) h.nodes, last)))))
+    by false = (
+      word_of (codes "table") refl refl,
+      (
+        labelled (codes "groups=") s.groups (word_of (codes "groups=") refl refl) h.groups,
+        (
+          labelled (codes "depth=") s.max_depth (word_of (codes "depth=") refl refl) h.max_depth,
+          (labelled (codes "first=") s.first_depth (word_of (codes "first=") refl refl) h.first_depth, (labelled (codes "nodes=") s.nodes (word_of (codes "nodes=") refl refl) h.nodes, last)),
+        ),
+      ),
+    )
 
 -- line 2
 pub table-again : (version : ℕ) (s : Sizes) → 1 ≤ version → version ≤ 2 → (version ≡ 1 → s.first_depth ≡ 0) → (version ≡ 1 → s.nodes ≡ 1) → are_sizes version s ≡ true → table_of version (line_of (table_words version s)) ≡ Ok s
@@ -178,7 +192,7 @@ table-again version s l h first nodes valid =
     let fits : Sizes → Result Sizes ScriptKind = λ s. if are_sizes version s then Ok s else Err kind.Table in
     let numbers : SizeWords → Result Sizes ScriptKind = λ w. sizes_told w >>= fits in
     ap (λ ws. size_words version ws >>= numbers) (parts-line (codes "table") ((codes "groups=" ++ decimal s.groups) ∷ (codes "depth=" ++ decimal s.max_depth)
-        ∷ ((if version == 1 then [] else (codes "first=" ++ decimal s.first_depth) ∷ (codes "nodes=" ++ decimal s.nodes) ∷ []) ++ (codes "words=" ++ decimal s.words) ∷ (codes "tries=" ++ decimal s.tries) ∷ [])) (sizes-words version s small))
+    ∷ ((if version == 1 then [] else (codes "first=" ++ decimal s.first_depth) ∷ (codes "nodes=" ++ decimal s.nodes) ∷ []) ++ (codes "words=" ++ decimal s.words) ∷ (codes "tries=" ++ decimal s.tries) ∷ [])) (sizes-words version s small))
     ∙ ap (λ read. read >>= numbers) (size_words-again version s l h first nodes)
     ∙ ap (λ read. read >>= fits) (told-again s small)
     ∙ cond-true _ _ _ valid
@@ -221,14 +235,15 @@ clients-words : (most : ℕ) (front cs : List (List ℕ × List Call)) → Each 
 clients-words most front [] h = tt
 clients-words most front (e ∷ es) h =
     both (AllByRecursion IsWord) (client_words e) (flat_map client_words es)
-      ((word_of (codes "client") refl refl, (IsWord-name e.0 h.0.0, tt)), calls-words e.1 h.0.3) (clients-words most (front ++ e ∷ []) es h.1)
+    ((word_of (codes "client") refl refl, (IsWord-name e.0 h.0.0, tt)), calls-words e.1 h.0.3) (clients-words most (front ++ e ∷ []) es h.1)
 
 module _ (most : ℕ) (cs : List (List ℕ × List Call)) (valid : Each (IsClient most) [] cs) (some : is_empty cs ≡ false) where
   stops-words : (front es : List (ℕ × ℕ)) → Each (IsStop (length cs)) front es → AllByRecursion (AllByRecursion IsWord) (map (stop_words (map (λ (e : List ℕ × List Call). e.0) cs)) es)
   stops-words front [] h = tt
-  stops-words front (e ∷ es) h =
-      ((word_of (codes "stop") refl refl, (IsWord-name _ (name-again most (record no_content { clients = cs }) e.0 valid h.0.0), (IsWord-decimal e.1 (let small = h.0.1 in omega (arith, small)), tt))),
-        stops-words (front ++ e ∷ []) es h.1)
+  stops-words front (e ∷ es) h = (
+    (word_of (codes "stop") refl refl, (IsWord-name _ (name-again most (record no_content { clients = cs }) e.0 valid h.0.0), (IsWord-decimal e.1 (let small = h.0.1 in omega (arith, small)), tt))),
+    stops-words (front ++ e ∷ []) es h.1,
+  )
 
   schedules-words : (is : List (List Item)) → AllByRecursion (IsSchedule (length cs)) is → AllByRecursion (AllByRecursion IsWord) (map (schedule_words (map (λ (e : List ℕ × List Call). e.0) cs)) is)
   schedules-words [] h = tt
@@ -262,15 +277,15 @@ script-again s h =
     let others : Head → Result Told Refusal = λ head. (read_lines (most_clients head.version) 3 start head.others >>= (λ content. Ok (record { version = head.version; sizes = head.sizes; content = content }))) in
     let head : Head = record { version = s.version; sizes = sizes; others = rest } in
     let one : let p : ℕ × List (List ℕ) = (s.version, second ∷ rest) in version_line (first ∷ second ∷ rest) ≡ Ok p =
-          ap (λ (read : Result (List ℕ × List (List ℕ)) ScriptKind). on_line 1 read >>= (λ (line : List ℕ × List (List ℕ)). on_line 1 (version_of line.0) >>= (λ (v : ℕ). Ok (let p : ℕ × List (List ℕ) = (v, line.1) in p)))) (next-again first (second ∷ rest) refl h.short_lines.0)
-          ∙ ap (λ (read : Result ℕ ScriptKind). on_line 1 read >>= (λ (v : ℕ). Ok (let p : ℕ × List (List ℕ) = (v, second ∷ rest) in p))) (version-again s.version h.version_least h.version_most) in
+    ap (λ (read : Result (List ℕ × List (List ℕ)) ScriptKind). on_line 1 read >>= (λ (line : List ℕ × List (List ℕ)). on_line 1 (version_of line.0) >>= (λ (v : ℕ). Ok (let p : ℕ × List (List ℕ) = (v, line.1) in p)))) (next-again first (second ∷ rest) refl h.short_lines.0)
+    ∙ ap (λ (read : Result ℕ ScriptKind). on_line 1 read >>= (λ (v : ℕ). Ok (let p : ℕ × List (List ℕ) = (v, second ∷ rest) in p))) (version-again s.version h.version_least h.version_most) in
     let two : let p : Sizes × List (List ℕ) = (sizes, rest) in table_line s.version (second ∷ rest) ≡ Ok p =
-          ap (λ (read : Result (List ℕ × List (List ℕ)) ScriptKind). on_line 2 read >>= (λ (line : List ℕ × List (List ℕ)). on_line 2 (table_of s.version line.0) >>= (λ (t : Sizes). Ok (let p : Sizes × List (List ℕ) = (t, line.1) in p)))) (next-again second rest (some_behind (map line_of (content_words s.content ++ end_words ∷ [])) []) h.short_lines.1.0)
-          ∙ ap (λ (read : Result Sizes ScriptKind). on_line 2 read >>= (λ (t : Sizes). Ok (let p : Sizes × List (List ℕ) = (t, rest) in p))) (table-again s.version sizes h.version_least h.version_most h.first h.nodes h.sizes) in
+    ap (λ (read : Result (List ℕ × List (List ℕ)) ScriptKind). on_line 2 read >>= (λ (line : List ℕ × List (List ℕ)). on_line 2 (table_of s.version line.0) >>= (λ (t : Sizes). Ok (let p : Sizes × List (List ℕ) = (t, line.1) in p)))) (next-again second rest (some_behind (map line_of (content_words s.content ++ end_words ∷ [])) []) h.short_lines.1.0)
+    ∙ ap (λ (read : Result Sizes ScriptKind). on_line 2 read >>= (λ (t : Sizes). Ok (let p : Sizes × List (List ℕ) = (t, rest) in p))) (table-again s.version sizes h.version_least h.version_most h.first h.nodes h.sizes) in
     let whole_head : head_of (text_of_script s) ≡ Ok head =
-          ap (λ ps. version_line ps >>= (λ (f : ℕ × List (List ℕ)). table_line f.0 f.1 >>= (λ (t : Sizes × List (List ℕ)). Ok (let x : Head = record { version = f.0; sizes = t.0; others = t.1 } in x)))) parts
-          ∙ ap (λ (read : Result (ℕ × List (List ℕ)) Refusal). read >>= (λ (f : ℕ × List (List ℕ)). table_line f.0 f.1 >>= (λ (t : Sizes × List (List ℕ)). Ok (let x : Head = record { version = f.0; sizes = t.0; others = t.1 } in x)))) one
-          ∙ ap (λ (read : Result (Sizes × List (List ℕ)) Refusal). read >>= (λ (t : Sizes × List (List ℕ)). Ok (let x : Head = record { version = s.version; sizes = t.0; others = t.1 } in x))) two in
+    ap (λ ps. version_line ps >>= (λ (f : ℕ × List (List ℕ)). table_line f.0 f.1 >>= (λ (t : Sizes × List (List ℕ)). Ok (let x : Head = record { version = f.0; sizes = t.0; others = t.1 } in x)))) parts
+    ∙ ap (λ (read : Result (ℕ × List (List ℕ)) Refusal). read >>= (λ (f : ℕ × List (List ℕ)). table_line f.0 f.1 >>= (λ (t : Sizes × List (List ℕ)). Ok (let x : Head = record { version = f.0; sizes = t.0; others = t.1 } in x)))) one
+    ∙ ap (λ (read : Result (Sizes × List (List ℕ)) Refusal). read >>= (λ (t : Sizes × List (List ℕ)). Ok (let x : Head = record { version = s.version; sizes = t.0; others = t.1 } in x))) two in
     let some = clients-some s.content.clients h.some in
     let short = parts_of (λ l. length (line_of l) ≤ 4096) (content_words s.content) (end_words ∷ []) h.short_lines.1.1 in
     cond-false _ _ _ (le-ltb 4194304 (length (text_of_script s)) h.short)
@@ -280,3 +295,25 @@ script-again s h =
     clients-some : (cs : List (List ℕ × List Call)) → 1 ≤ length cs → is_empty cs ≡ false
     clients-some [] l = absurd (omega arith)
     clients-some (c ∷ cs) l = refl
+
+-- a script is what is told of it
+same-told : (s t : ScriptValue) → told_of s ≡ told_of t → s ≡ t
+same-told s t h =
+    let version = ap (λ (x : Told). x.version) h in
+    let content = ap (λ (x : Told). x.content) h in
+    let tries = ap (λ (x : Told). x.sizes.tries) h in
+    let geometry = same_geometry s.geometry t.geometry (ap (λ (x : Told). x.sizes.groups) h) (ap (λ (x : Told). x.sizes.max_depth) h) (ap (λ (x : Told). x.sizes.first_depth) h)
+    (ap (λ (x : Told). x.sizes.nodes) h) (ap (λ (x : Told). x.sizes.words) h) in
+    λ i. record { version = version i; geometry = geometry i; tries = tries i; content = content i }
+
+-- the text of a script is read as that script
+pub only-read : (bytes : List ℕ) (result : Result ScriptValue ScriptFault) (s : ScriptValue) → Reads told_of result (script_of bytes) → IsScript s → bytes ≡ text_of_script s → Reads (λ t. t) result (Ok s)
+only-read bytes (Ok t) s read h text =
+    let told = sym read ∙ ap script_of text ∙ script-again s h in
+    ap Ok (sym (same-told t s (ok_same (told_of t) (told_of s) told)))
+only-read bytes (Err (fault.Refused line k)) s read h text = absurd (err_ok (let at : Refusal = (line, k) in at) (told_of s) (sym read ∙ ap script_of text ∙ script-again s h))
+only-read bytes (Err fault.OutOfMemory) s read h text = tt
+
+-- two scripts never have one text
+pub one-text : (s t : ScriptValue) → IsScript s → IsScript t → text_of_script s ≡ text_of_script t → s ≡ t
+one-text s t p q e = same-told s t (ok_same (told_of s) (told_of t) (sym (script-again s p) ∙ ap script_of e ∙ script-again t q))

@@ -49,35 +49,35 @@ small_byte : (c : ℕ) → is_small c ≡ true → is_word_byte c ≡ true
 small_byte c h = wider 97 122 c h (omega arith) (omega arith)
 
 name_byte : (c : ℕ) → is_name_byte c ≡ true → is_word_byte c ≡ true
-name_byte c h = elim (or_cases _ _ h) [ | inl s ↦ small_byte c s | inr d ↦ digit_byte c d ]
+name_byte c h = elim (or_cases _ _ h) [ inl s ↦ small_byte c s | inr d ↦ digit_byte c d ]
 
 plain_byte : (c : ℕ) → is_plain c ≡ true → is_word_byte c ≡ true
 plain_byte c h =
     elim (or_cases _ _ h) [
       | inl a ↦ elim (or_cases _ _ a) [
-          | inl b ↦ elim (or_cases _ _ b) [
-              | inl d ↦ elim (or_cases _ _ d) [
-                  | inl e ↦ name_byte c e
-                  | inr f ↦ wider 65 90 c f (omega arith) (omega arith)
-                ]
-              | inr g ↦ let same = eqb-true c 95 g in inside 33 126 c (omega (arith, same)) (omega (arith, same))
-            ]
-          | inr g ↦ let same = eqb-true c 45 g in inside 33 126 c (omega (arith, same)) (omega (arith, same))
+        | inl b ↦ elim (or_cases _ _ b) [
+          | inl d ↦ elim (or_cases _ _ d) [
+            | inl e ↦ name_byte c e
+            | inr f ↦ wider 65 90 c f (omega arith) (omega arith)
+          ]
+          | inr g ↦ let same = eqb-true c 95 g in inside 33 126 c (omega (arith, same)) (omega (arith, same))
         ]
+        | inr g ↦ let same = eqb-true c 45 g in inside 33 126 c (omega (arith, same)) (omega (arith, same))
+      ]
       | inr g ↦ let same = eqb-true c 46 g in inside 33 126 c (omega (arith, same)) (omega (arith, same))
     ]
 
 hex_byte : (v : ℕ) → v < 16 → is_word_byte (hex_digit v) ≡ true
 hex_byte v h = elim (cases_lt v 10) [
-      | inl low ↦ ap is_word_byte (cond-true _ _ _ (lt-ltb v 10 low)) ∙ inside 33 126 (48 + v) (omega arith) (omega arith)
-      | inr high ↦ ap is_word_byte (cond-false _ _ _ (le-ltb v 10 high)) ∙ inside 33 126 (87 + v) (omega arith) (omega arith)
-    ]
+  | inl low ↦ ap is_word_byte (cond-true _ _ _ (lt-ltb v 10 low)) ∙ inside 33 126 (48 + v) (omega arith) (omega arith)
+  | inr high ↦ ap is_word_byte (cond-false _ _ _ (le-ltb v 10 high)) ∙ inside 33 126 (87 + v) (omega arith) (omega arith)
+]
 
 hex_bytes_word : (bs : List ℕ) → AllByRecursion (λ b. b < 256) bs → list_all is_word_byte (hex_text bs) ≡ true
 hex_bytes_word [] h = refl
 hex_bytes_word (b ∷ bs) h =
     and_from _ _ (hex_byte (b / 16) (div_below b 16 16 (omega arith) h.0))
-      (and_from _ _ (hex_byte (b % 16) (mod_below b 16 (omega arith))) (hex_bytes_word bs h.1))
+    (and_from _ _ (hex_byte (b % 16) (mod_below b 16 (omega arith))) (hex_bytes_word bs h.1))
 
 -- each spelling is a word
 pub IsWord-decimal : (n : ℕ) → n < 2 ^ 64 → IsWord (decimal n)

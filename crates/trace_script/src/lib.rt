@@ -23,7 +23,7 @@ mod writing;
 
 pub use fault::{ScriptFault, ScriptKind};
 pub use map_model::{Item, Items, Plan, Plans};
-pub use reading::read_script;
+pub use reading::{one_text, read_script};
 pub use report::{Line, Lines, Mode, Tag, reply_text, report_text};
 pub use script::Script;
 pub use text::Text;

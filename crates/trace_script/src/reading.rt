@@ -1,8 +1,6 @@
 //! Reading a script: its lines, one after the other.
-ghost use Rattle.std.specs.Prelude.{◌≡◌, ◌≤◌, ◌<◌, ◌^◌, ◌+◌, IfOk, length, MatchResult, Ok, Err, ℕ, List, true};
-ghost use Rattle.std.specs.List.{list_all};
-ghost use Rattle.trace_script.specs.Spelling.{is_name_byte};
-ghost use Rattle.trace_script.specs.Content.{no_content, sizes_of};
+ghost use Rattle.std.specs.Prelude.{◌≡◌, ◌≤◌, ◌<◌, ◌^◌, ◌+◌, IfOk, length, MatchResult, Ok, Err};
+ghost use Rattle.trace_script.specs.Content.{ScriptValue, no_content, sizes_of};
 ghost use Rattle.trace_script.specs.Words.{parts_at};
 ghost use Rattle.trace_script.specs.ScriptText.{text_of_script};
 ghost use Rattle.trace_script.specs.Valid.{IsScript};
@@ -160,12 +158,9 @@ fn table_line(version: u32, bytes: &[u8]) -> Result<(Geometry, u32, &[u8]), Scri
     Ok((geometry, tries, rest))
 }
 
-/// Reads a script. It answers the script that the bytes spell, or else the first line that breaks a rule, and the
-/// first rule that it breaks.
-pub fn read_script(alloc: Global, bytes: &[u8]) -> Result<Script, ScriptFault>
-    // What is read is a script, and the bytes are its text.
+// The script that the bytes spell, or their refusal.
+fn read_whole(alloc: Global, bytes: &[u8]) -> Result<Script, ScriptFault>
     ensures found { IfOk result (λ s. IsScript s × (bytes.now ≡ text_of_script s)) }
-    // Which script it is, or which refusal.
     ensures exact { Reads told_of result (script_of bytes.now) }
 {
     if bytes.len() > MOST_BYTES {
@@ -179,8 +174,21 @@ pub fn read_script(alloc: Global, bytes: &[u8]) -> Result<Script, ScriptFault>
     Ok(Script::of_parts(head.version, head.geometry, head.tries, body))
 }
 
-/// Laws.
-pub fn laws()
-    ensures { (w : List ℕ) → list_all is_name_byte w ≡ true → list_all is_name_byte w ≡ true }
+/// Reads a script. It answers the script that the bytes spell, or else the first line that breaks a rule, and the
+/// first rule that it breaks: for more than 4,194,304 bytes that is line 0 and `TooLong`. Want of memory is the one
+/// other answer.
+pub fn read_script(alloc: Global, bytes: &[u8]) -> Result<Script, ScriptFault>
+    // What is read is a script, and the bytes are its text.
+    ensures found { IfOk result (λ s. IsScript s × (bytes.now ≡ text_of_script s)) }
+    // The text of a script is read as that script, unless memory runs out.
+    ensures only { (s : ScriptValue) → IsScript s → bytes.now ≡ text_of_script s → Reads (λ t. t) result (Ok s) }
+    // Which script it is, or which refusal.
+    ensures exact { Reads told_of result (script_of bytes.now) }
 {
+    read_whole(alloc, bytes)
 }
+
+/// Two scripts never have one text.
+pub fn one_text()
+    ensures { (s t : ScriptValue) → IsScript s → IsScript t → text_of_script s ≡ text_of_script t → s ≡ t }
+{}
