@@ -19,3 +19,6 @@ mod role;
 pub use entry::{Entry, Verb};
 pub use kind::Kind;
 pub use log::Log;
+
+#[cfg(test)]
+mod tests;
