@@ -12,8 +12,12 @@ pub enum Verb {
 /// One write or one won swap.
 #[derive(Clone, Copy, PartialEq, Eq, Debug)]
 pub struct Entry {
+    /// The client's number, counted from 0.
     pub client: u32,
+    /// The address of the word, below the memory's words.
     pub at: u64,
+    /// The word that stood there before.
     pub old: u64,
+    /// The word that stands there from then on.
     pub new: u64,
 }

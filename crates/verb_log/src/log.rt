@@ -54,7 +54,7 @@ impl Log {
         }
     }
 
-    /// Makes room for at least one more entry, in time of the memory's words at the first call. A refusal
+    /// Makes room for at least one more entry. The first call takes two words for each word of the memory. A refusal
     /// changes nothing.
     pub fn reserve(&mut self) -> Result<(), AllocError>
         ensures entries { self.new.entries ≡ self.old.entries }
@@ -89,7 +89,7 @@ impl Log {
     }
 
     /// The word that stands at an address below `words` after the log: the newest that was put there, else the
-    /// opening's. It looks back from the newest entry.
+    /// opening's. It looks back from the newest entry, over all entries at most.
     pub fn word(&self, at: u64) -> u64
         requires { at < self.now.geometry.words }
         ensures { result ≡ slice_index (replay self.now.geometry self.now.entries) at }
@@ -103,9 +103,9 @@ impl Log {
         self.geometry.opening_word(at)
     }
 
-    /// Appends an entry, whose old word is the one that stands at its address. It answers Ok where there is room
-    /// for one more. A refusal leaves the log as it was. It costs a constant time, and a table's words where the
-    /// entry links a table.
+    /// Appends an entry, which stands below the memory's words and whose old word is the one that stands at its
+    /// address. It answers Ok where there is room for one more. A refusal leaves the log as it was. Over many calls it
+    /// costs a constant time for each entry, and a table's words for each that links a table.
     pub fn push(&mut self, entry: Entry) -> Result<(), AllocError>
         requires within { entry.at < self.old.geometry.words }
         requires old { entry.old ≡ slice_index (replay self.old.geometry self.old.entries) entry.at }
