@@ -1,4 +1,5 @@
 use super::*;
+use kv_block::Value;
 use map_model::{MapMachine, Nexts, Reply};
 use std::test::*;
 
@@ -115,36 +116,94 @@ fn refused_lines(rt: HostRuntime) -> Result<(), Fail> {
     Ok(())
 }
 
-/// The report of the smallest script.
+/// Names, keys and values of the greatest length are taken, and longer ones are not.
 #[test]
-fn smallest_report(rt: HostRuntime) -> Result<(), Fail> {
+fn lengths(rt: HostRuntime) -> Result<(), Fail> {
+    let head = "race 1\ntable groups=1 depth=0 words=100 tries=3\n";
+    for (front, count, back, refused) in [
+        ("client ", 16, "\nend\n", None),
+        ("client ", 17, "\nend\n", Some((3, ScriptKind::Client))),
+        ("client a\nsearch ", 64, "\nend\n", None),
+        (
+            "client a\nsearch ",
+            65,
+            "\nend\n",
+            Some((4, ScriptKind::Key)),
+        ),
+        ("client a\ninsert k ", 1024, "\nend\n", None),
+        (
+            "client a\ninsert k ",
+            1025,
+            "\nend\n",
+            Some((4, ScriptKind::Value)),
+        ),
+        ("client a\nend", 1, "\n", Some((4, ScriptKind::Word))),
+    ] {
+        let mut text = String::from_str(rt.alloc(), head)?;
+        text.push_str(front)?;
+        for _ in 0..count {
+            text.push_str("x")?;
+        }
+        text.push_str(back)?;
+        assert_eq!(rt; refusal(&rt, text.as_str()), refused, "{front}{count}");
+    }
+    Ok(())
+}
+
+/// Replies with their texts.
+#[test]
+fn replies(rt: HostRuntime) -> Result<(), Fail> {
+    let value = Value::from_bytes(b"v 1").ok_or("a value")?;
+    let next = Nexts::one(47).with(93);
+    for (reply, wanted) in [
+        (Reply::Found(value), "found %762031"),
+        (Reply::Missing, "missing"),
+        (Reply::Inserted, "inserted"),
+        (
+            Reply::Split {
+                table: 47,
+                depth: 2,
+            },
+            "split 47 2",
+        ),
+        (Reply::Again { lost: 3 }, "again 3"),
+        (Reply::FullDepth { depth: 0 }, "full-depth 0"),
+        (Reply::FullWords { next, need: 44 }, "full-words 47,93 44"),
+        (
+            Reply::NoBlock {
+                next: Nexts::one(50),
+                need: 3,
+            },
+            "no-block 50 3",
+        ),
+    ] {
+        let text = reply_text(rt.alloc(), &reply)?;
+        assert_eq!(rt; text.as_slice(), wanted.as_bytes());
+    }
+    Ok(())
+}
+
+/// The smallest script read back, and the report of a script without calls.
+#[test]
+fn texts(rt: HostRuntime) -> Result<(), Fail> {
     let script = read_script(rt.alloc(), SMALLEST.as_bytes())
         .ok()
         .ok_or("a script")?;
-    assert_eq!(rt; script.clients(), 1);
-    let mut lines = Lines::new(rt.alloc());
-    let mut map = MapMachine::new(rt.alloc());
-    for (i, point) in [0, 1, 1].into_iter().enumerate() {
-        let call = script.calls(0);
-        assert!(rt; i < call.len());
-        let reply = map.step(call.get(i))?;
-        lines.push(Line {
-            client: 0,
-            number: i as u32 + 1,
-            reply,
-            tag: Tag::Point(point),
-        })?;
-    }
+    assert_eq!(rt;
+        script_text(rt.alloc(), &script)?.as_slice(),
+        SMALLEST.as_bytes()
+    );
+    let lines = Lines::new(rt.alloc());
+    let map = MapMachine::new(rt.alloc());
     let report = report_text(
         rt.alloc(),
         Mode::Replay,
         &script,
         &lines,
         &map,
-        Nexts::one(50),
+        Nexts::one(47),
     )?;
-    let wanted =
-        "race 1 replay\na 1 insert k 1 inserted @0\na 2 search k found 1 @1\na 3 search j missing @1\nmap k 1\nend calls=3 open=0 changes=1 next=50\n";
+    let wanted = "race 1 replay\nend calls=0 open=0 changes=0 next=47\n";
     assert_eq!(rt; report.as_slice(), wanted.as_bytes());
     Ok(())
 }
