@@ -6,6 +6,7 @@ use Rattle.trace_script.specs.Rules.{Told, Refusal, script_of}
 use Rattle.trace_script.specs.Gives.{told_of}
 use Rattle.race_play.specs.Layout.{IsOneTable}
 use Rattle.race_play.specs.Plays.{is_plain, if_plain, plain_script}
+use Rattle.race_play.specs.Refusals.{refused, refusal_of, lacked}
 
 -- the tests of a script of this form, one by one
 pub record Parts (script : ScriptValue) : Type 0 where
@@ -29,6 +30,13 @@ plain-none bytes told e p = ap if_plain e ∙ ap (λ (b : Bool). cond b (Some to
 
 pub plain-refused : (bytes : List ℕ) (refusal : Refusal) → script_of bytes ≡ Err refusal → plain_script bytes ≡ None
 plain-refused bytes refusal e = ap if_plain e
+
+-- a refusal of the grammar is the bytes' refusal, and so is what the player lacks
+pub refused-grammar : (bytes : List ℕ) (refusal : Refusal) → script_of bytes ≡ Err refusal → refusal_of bytes ≡ Some refusal
+refused-grammar bytes refusal e = ap refused e
+
+pub refused-lacking : (bytes : List ℕ) (told : Told) → script_of bytes ≡ Ok told → is_plain told ≡ false → refusal_of bytes ≡ Some (lacked told)
+refused-lacking bytes told e p = ap refused e ∙ ap (λ (b : Bool). cond b None (Some (lacked told))) p
 
 not_refused : (b : Bool) (refusal : Refusal) (rest : Result Told Refusal) (told : Told) → if_plain (cond b (Err refusal) rest) ≡ Some told → b ≡ false
 not_refused true refusal rest told e = absurd (none_some e)

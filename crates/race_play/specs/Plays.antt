@@ -1,12 +1,12 @@
 -- The lines of a play, and when bytes are a script of one client that inserts and searches.
-use Rattle.std.specs.Prelude.{◌≡◌, ℕ, ◌+◌, ◌==◌, ◌&&◌, ◌||◌, nat_le, Bool, true, false, List, [], ◌∷◌, length, Option, Some, None, is_none, Result, Ok, Err, if◌then◌else◌}
+use Rattle.std.specs.Prelude.{◌≡◌, ℕ, ◌+◌, ◌==◌, ◌&&◌, ◌||◌, nat_le, Bool, true, false, List, [], ◌∷◌, length, flat_map, Option, Some, None, is_none, Result, Ok, Err, if◌then◌else◌}
 use Rattle.std.specs.List.{list_all}
 use Rattle.std.specs.FinMap as map
 use Rattle.map_model.specs.Machine.{is_change, is_quiet}
 use Rattle.map_model.specs.declared.calls.Call.{Call}
 use Rattle.map_model.specs.declared.calls.Call.TheVariants.{Insert, Search, Update, Delete, Resize}
 use Rattle.map_model.specs.declared.calls.Reply.{Reply}
-use Rattle.trace_script.specs.Content.{ScriptValue, stop_at, calls_at}
+use Rattle.trace_script.specs.Content.{ScriptValue, Sizes, Content, stop_at, calls_at}
 use Rattle.trace_script.specs.Rules.{Told, Refusal, script_of}
 use Rattle.trace_script.specs.Gives.{told_of}
 use Rattle.trace_script.specs.Report.{report}
@@ -43,13 +43,20 @@ is_plain_call (Update key value) = false
 is_plain_call (Delete key) = false
 is_plain_call (Resize key) = false
 
--- a `race 1` script with one table of one group that is never split, one client that never stops, and calls that are
--- inserts and searches; hash and schedule lines change no reply of such a script
+-- one table of one group that is never split
+abbrev pub is_plain_table : Sizes → Bool
+is_plain_table sizes = (sizes.groups == 1) && (sizes.max_depth == 0) && (sizes.first_depth == 0) && (sizes.nodes == 1)
+
+-- no hash line, one client that never stops, no schedule line, and calls that are inserts and searches
+abbrev pub is_plain_content : Content → Bool
+is_plain_content content =
+    (length content.hashes == 0) && (length content.clients == 1) && is_none (stop_at content 0)
+    && (length (flat_map (λ items. items) content.schedules) == 0)
+    && nat_le (length (calls_at content 0)) 65536 && list_all is_plain_call (calls_at content 0)
+
+-- a script of this form: a `race 1` script of such a table and such lines
 abbrev pub is_plain : Told → Bool
-is_plain told =
-    (told.version == 1) && (told.sizes.groups == 1) && (told.sizes.max_depth == 0) && (told.sizes.first_depth == 0) && (told.sizes.nodes == 1)
-    && (length told.content.clients == 1) && is_none (stop_at told.content 0)
-    && nat_le (length (calls_at told.content 0)) 65536 && list_all is_plain_call (calls_at told.content 0)
+is_plain told = (told.version == 1) && is_plain_table told.sizes && is_plain_content told.content
 
 -- what was read, where it is a script of this form
 abbrev pub if_plain : Result Told Refusal → Option Told

@@ -6,6 +6,7 @@
 #![tactic(auto)]
 
 mod player;
+mod refusal;
 mod table;
 #[cfg(test)]
 mod tests;

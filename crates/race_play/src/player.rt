@@ -1,27 +1,26 @@
 // The play of a script of one client, and its report.
-ghost use Rattle.std.specs.Prelude.{◌≡◌, ◌≤◌, ◌↔◌, ℕ, ◌∷◌, [], IsTrue, IfOk, OnOk, IsErrOf, Some, None, length, true};
-ghost use Rattle.std.specs.List.{list_all};
+ghost use Rattle.std.specs.Prelude.{◌≡◌, ◌≤◌, ◌↔◌, ℕ, ◌∷◌, [], IsTrue, IfOk, OnOk, Some, None, Err, length, true};
 ghost use Rattle.map_model.specs.Machine.{is_change, is_quiet};
 ghost use Rattle.trace_script.specs.Gives.{told_of};
 ghost use Rattle.trace_script.specs.declared.report.Tag.TheVariants.{Point, Nothing};
 ghost use Rattle.race_play.specs.Holding.{Holds};
 ghost use Rattle.race_play.specs.Replies.{Held, opened};
-ghost use Rattle.race_play.specs.Plays.{tag_of, lines_from, held_by, is_plain_call, is_plain, plain_script, replayed, Replays};
-ghost use Rattle.race_play.specs.declared.player.PlayFault.TheVariants.{OutOfMemory};
+ghost use Rattle.race_play.specs.Plays.{tag_of, lines_from, held_by, is_plain, plain_script, replayed, Replays};
+ghost use Rattle.race_play.specs.Refusals.{refusal_of};
+ghost use Rattle.race_play.specs.declared.refusal.Refusal.{Refusal};
+ghost use Rattle.race_play.specs.declared.player.PlayFault.TheVariants.{OutOfMemory, Refused};
 
 use crate::table::Table;
-use map_model::{Call, Calls, Nexts, Reply};
+use map_model::{Calls, Nexts, Reply};
 use std::alloc::{AllocError, Global};
 use trace_script::{Line, Lines, Mode, Script, ScriptFault, Tag, Text, read_script, report_text};
-
-/// The most calls of a script.
-const MOST_CALLS: usize = 65_536;
+use crate::refusal::{Refusal, is_plain, lacked};
 
 /// Why there is no report.
 #[derive(Clone, Copy, Debug, PartialEq, Eq)]
 pub enum PlayFault {
     /// The bytes are no script of this form.
-    NoScript,
+    Refused(Refusal),
     /// Want of memory.
     OutOfMemory,
 }
@@ -88,31 +87,6 @@ fn play(alloc: Global, table: &mut Table, calls: &Calls) -> Result<Lines, AllocE
     Ok(lines)
 }
 
-// Whether all calls are inserts and searches.
-fn are_plain(calls: &Calls) -> bool
-    ensures { result ≡ list_all is_plain_call calls.now.items }
-{
-    calls.as_slice().iter().all(|call| matches!(call, Call::Insert { .. } | Call::Search { .. }))
-}
-
-// Whether a script is of this form.
-fn is_plain(script: &Script) -> bool
-    ensures { result ≡ is_plain (told_of script.now) }
-{
-    let geometry = script.geometry();
-    if script.version() != 1
-        || geometry.groups != 1
-        || geometry.max_depth != 0
-        || geometry.first_depth != 0
-        || geometry.nodes != 1
-        || script.clients() != 1
-    {
-        return false;
-    }
-    let calls = script.calls(0);
-    script.stop(0).is_none() && calls.len() <= MOST_CALLS && are_plain(calls)
-}
-
 // The report of the play of a script of this form.
 fn report(alloc: Global, script: &Script) -> Result<Text, AllocError>
     requires { is_plain (told_of script.now) ≡ true }
@@ -125,19 +99,26 @@ fn report(alloc: Global, script: &Script) -> Result<Text, AllocError>
     report_text(alloc, Mode::Replay, script, &lines, &map, next)
 }
 
-/// The report of the play of the script that bytes spell. It answers NoScript exactly where they spell none of this
-/// form.
+/// The report of the play of the script that bytes spell. It answers Refused exactly where they spell none of this
+/// form, with the first line that breaks a rule, else the first that this player lacks.
 pub fn replay_text(alloc: Global, bytes: &[u8]) -> Result<Text, PlayFault>
     ensures text { IfOk result (λ text. Replays bytes.now text.items) }
-    ensures refused { IsErrOf result PlayFault.NoScript → plain_script bytes.now ≡ None }
+    ensures refused {
+        (refusal : Refusal) → result ≡ Err (Refused refusal)
+            → (plain_script bytes.now ≡ None) × (refusal_of bytes.now ≡ Some (refusal.line, refusal.kind))
+    }
 {
     let script = match read_script(alloc, bytes) {
         Ok(script) => script,
-        Err(ScriptFault::Refused { .. }) => return Err(PlayFault::NoScript),
+        Err(ScriptFault::Refused { line, kind }) => {
+            return Err(PlayFault::Refused(Refusal { line, kind }));
+        }
         Err(ScriptFault::OutOfMemory) => return Err(PlayFault::OutOfMemory),
     };
-    if !is_plain(&script) {
-        return Err(PlayFault::NoScript);
+    let listed = script.placer(alloc)?;
+    let items = script.items(alloc)?;
+    if !is_plain(&script, &listed, &items) {
+        return Err(PlayFault::Refused(lacked(&script, &listed)));
     }
     Ok(report(alloc, &script)?)
 }

@@ -1,10 +1,11 @@
 // The call that reads a script, plays it and writes its report.
-ghost use Rattle.std.specs.Prelude.{◌≡◌, ℕ, ◌≤◌, ◌↔◌, [], ◌∷◌, IsTrue, codes, map, List};
+ghost use Rattle.std.specs.Prelude.{◌≡◌, ℕ, ◌≤◌, ◌↔◌, [], ◌∷◌, IsTrue, codes, map, List, ◌⊎◌};
 ghost use Rattle.race_io.specs.Counts.{Rose};
 ghost use Rattle.race_io.specs.Transfer.{TakesSome};
-ghost use Rattle.race_play.specs.Outcomes.{IsStatus, Plays, PlaysInPart, Refuses};
+ghost use Rattle.race_play.specs.Outcomes.{IsStatus, Plays, PlaysInPart, Refuses, Tells};
 
 use crate::player::{PlayFault, replay_text};
+use crate::refusal::Refusal;
 use race_io::{Sink, Source, TakeFault, put_all, take_all};
 use std::alloc::Global;
 
@@ -29,13 +30,27 @@ fn is_replay(words: &[&str]) -> bool
     }
 }
 
+// Writes the line of a refusal. The status is 3, also where the sink fails, or 6 where there was no memory.
+fn refuse<K: Sink>(alloc: Global, refusal: &Refusal, sink: &mut K) -> Ended
+    ensures statuses { (result.status ≡ 3) ⊎ (result.status ≡ 6) }
+    ensures told { result.status ≡ 3 → Tells (K.taken sink.old) (K.taken sink.new) (K.faults sink.old) (K.faults sink.new) (refusal.now.line, refusal.now.kind) }
+    ensures wanting { result.status ≡ 6 → sink.new ≡ sink.old }
+    ensures counted { K.faults sink.old ≤ K.faults sink.new }
+{
+    let Ok(text) = refusal.text(alloc) else {
+        return Ended { status: 6 };
+    };
+    let _ = put_all(sink, text.as_bytes());
+    Ended { status: 3 }
+}
+
 /// Reads the source to its end, plays the script and writes its report. Every call returns, and nothing is written
 /// before the whole report is made.
 ///
 /// The status is 2 exactly where the words are not `replay` alone, and then nothing is read or written. It is 4 only
 /// where the source's count of faults rose, and 5 only where the sink's count rose, after the play. It is 3 exactly
-/// where no read failed and the bytes read are no script of this form: nothing is written then. At 6 memory was
-/// wanting, and nothing is written.
+/// where no read failed and the bytes read are no script of this form: then the line of the refusal is written, or a part
+/// from its front where the sink fails. At 6 memory was wanting, and nothing is written.
 pub fn race<S: Source, K: Sink>(
     alloc: Global,
     words: &[&str],
@@ -52,9 +67,10 @@ pub fn race<S: Source, K: Sink>(
     // The script was played and its whole report written.
     ensures played { result.status ≡ 0 → Plays (S.left source.old) (S.left source.new) (K.taken sink.old) (K.taken sink.new) }
 
-    // The bytes are no script of this form.
-    ensures refused { result.status ≡ 3 → Refuses (S.left source.old) (S.left source.new) }
-    ensures refused_unwritten { result.status ≡ 3 → sink.new ≡ sink.old }
+    // The bytes are no script of this form, and the line of their refusal was written.
+    ensures refused {
+        result.status ≡ 3 → Refuses (S.left source.old) (S.left source.new) (K.taken sink.old) (K.taken sink.new) (K.faults sink.old) (K.faults sink.new)
+    }
 
     // The source failed: its count of faults rose.
     ensures failed { result.status ≡ 4 → Rose (S.faults source.old) (S.faults source.new) }
@@ -81,7 +97,7 @@ pub fn race<S: Source, K: Sink>(
     };
     let text = match replay_text(alloc, bytes.as_slice()) {
         Ok(text) => text,
-        Err(PlayFault::NoScript) => return Ended { status: 3 },
+        Err(PlayFault::Refused(refusal)) => return refuse(alloc, &refusal, sink),
         Err(PlayFault::OutOfMemory) => return Ended { status: 6 },
     };
     match put_all(sink, text.as_slice()) {

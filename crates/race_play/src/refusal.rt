@@ -1,0 +1,134 @@
+// The scripts that this player lacks, and the line that tells a refusal.
+ghost use Rattle.std.specs.Prelude.{◌≡◌, ◌≤◌, ◌&&◌, IfOk, length, true, flat_map};
+ghost use Rattle.std.specs.String.{string_bytes};
+ghost use Rattle.std.specs.List.{list_all};
+ghost use Rattle.trace_script.specs.Gives.{told_of};
+ghost use Rattle.trace_script.specs.Content.{sizes_of};
+ghost use Rattle.race_play.specs.Plays.{is_plain_table, is_plain_call, is_plain};
+ghost use Rattle.race_play.specs.Refusals.{plain_calls, lacked, kind_word, refusal_line};
+
+use key_hash::Listed;
+use map_model::{Call, Calls, Items};
+use node_words::Geometry;
+use std::alloc::{AllocError, Global};
+use trace_script::{Script, ScriptKind};
+
+/// The most calls of a script.
+const MOST_CALLS: usize = 65_536;
+
+/// A line of a script, counted from 1 or 0 where there are too many bytes, and why it is refused.
+#[derive(Clone, Copy, Debug, PartialEq, Eq)]
+pub struct Refusal {
+    pub line: u64,
+    pub kind: ScriptKind,
+}
+
+// Whether a call is an insert or a search.
+fn is_plain_call(call: &Call) -> bool
+    ensures { result ≡ is_plain_call call.now }
+{
+    matches!(call, Call::Insert { .. } | Call::Search { .. })
+}
+
+// Whether all calls are inserts and searches.
+fn are_plain(calls: &Calls) -> bool
+    ensures { result ≡ list_all is_plain_call calls.now.items }
+{
+    calls.as_slice().iter().all(|call| is_plain_call(call))
+}
+
+// How many inserts and searches stand before the first other call.
+fn plain_calls(calls: &Calls) -> u64
+    ensures { result ≡ plain_calls calls.now.items }
+{
+    let items = calls.as_slice();
+    let mut count = 0;
+    while count < items.len() && is_plain_call(&items[count]) {
+        count += 1;
+    }
+    count as u64
+}
+
+// Whether the table is one of one group that is never split.
+fn is_plain_table(geometry: &Geometry) -> bool
+    ensures { (tries : _) → result ≡ is_plain_table (sizes_of geometry.now tries) }
+{
+    geometry.groups == 1
+        && geometry.max_depth == 0
+        && geometry.first_depth == 0
+        && geometry.nodes == 1
+}
+
+/// Whether a script, of which these are the listed hashes and the items of its schedule, is of this form.
+pub fn is_plain(script: &Script, listed: &Listed, items: &Items) -> bool
+    requires listed { listed.now ≡ script.now.content.hashes }
+    requires items { items.now.items ≡ flat_map (λ line. line) script.now.content.schedules }
+    ensures { result ≡ is_plain (told_of script.now) }
+{
+    if script.version() != 1 || !is_plain_table(&script.geometry()) {
+        return false;
+    }
+    if listed.len() != 0 || script.clients() != 1 || !items.is_empty() {
+        return false;
+    }
+    let calls = script.calls(0);
+    script.stop(0).is_none() && calls.len() <= MOST_CALLS && are_plain(calls)
+}
+
+/// What this player lacks first of a script of another form, of which these are the listed hashes. It goes away once all
+/// scripts are played.
+pub fn lacked(script: &Script, listed: &Listed) -> Refusal
+    requires { listed.now ≡ script.now.content.hashes }
+    ensures line { result.line ≡ (lacked (told_of script.now)).0 }
+    ensures kind { result.kind ≡ (lacked (told_of script.now)).1 }
+{
+    if script.version() != 1 {
+        return Refusal {
+            line: 1,
+            kind: ScriptKind::Header,
+        };
+    }
+    if !is_plain_table(&script.geometry()) {
+        return Refusal {
+            line: 2,
+            kind: ScriptKind::Table,
+        };
+    }
+    let line = if listed.len() == 0 {
+        4 + plain_calls(script.calls(0))
+    } else {
+        3
+    };
+    Refusal {
+        line,
+        kind: ScriptKind::Word,
+    }
+}
+
+// The word of a kind.
+fn kind_word(kind: ScriptKind) -> &'static str
+    ensures { result.now ≡ kind_word kind }
+{
+    match kind {
+        ScriptKind::Header => "header",
+        ScriptKind::Table => "table",
+        ScriptKind::Word => "word",
+        ScriptKind::Key => "key",
+        ScriptKind::Value => "value",
+        ScriptKind::Number => "number",
+        ScriptKind::Client => "client",
+        ScriptKind::Schedule => "schedule",
+        ScriptKind::TooLong => "too-long",
+        ScriptKind::End => "end",
+    }
+}
+
+impl Refusal {
+    /// The line that tells the refusal.
+    pub fn text(&self, alloc: Global) -> Result<String, AllocError>
+        ensures { IfOk result (λ text. string_bytes text ≡ refusal_line (self.now.line, self.now.kind)) }
+    {
+        let (line, word) = (self.line, kind_word(self.kind));
+        format!(in alloc; "refused line {line} {word}\n")
+    }
+}
