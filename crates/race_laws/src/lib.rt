@@ -11,6 +11,8 @@
 mod area;
 mod laws;
 mod leaving;
+#[cfg(test)]
+mod tests;
 
 pub use area::Area;
 pub use laws::{

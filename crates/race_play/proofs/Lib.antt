@@ -4,3 +4,4 @@ pub mod OpenTable
 pub mod Plainness
 pub mod Playing
 pub mod Seating
+pub mod Lacking

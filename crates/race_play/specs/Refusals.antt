@@ -49,4 +49,4 @@ kind_word kind.End = codes "end"
 
 -- the line that tells a refusal
 abbrev pub refusal_line : Refusal → List ℕ
-refusal_line refusal = codes "refused line " ++ decimal refusal.0 ++ codes " " ++ kind_word refusal.1 ++ codes "\n"
+refusal_line refusal = codes "refused line " ++ (decimal refusal.0 ++ (32 ∷ (kind_word refusal.1 ++ 10 ∷ [])))

@@ -4,7 +4,7 @@ ghost use Rattle.std.specs.String.{string_bytes};
 ghost use Rattle.std.specs.List.{list_all};
 ghost use Rattle.trace_script.specs.Gives.{told_of};
 ghost use Rattle.trace_script.specs.Content.{sizes_of};
-ghost use Rattle.race_play.specs.Plays.{is_plain_table, is_plain_call, is_plain};
+ghost use Rattle.race_play.specs.Plays.{is_plain_table, is_plain_content, is_plain_call, is_plain};
 ghost use Rattle.race_play.specs.Refusals.{plain_calls, lacked, kind_word, refusal_line};
 
 use key_hash::Listed;
@@ -43,7 +43,10 @@ fn plain_calls(calls: &Calls) -> u64
 {
     let items = calls.as_slice();
     let mut count = 0;
-    while count < items.len() && is_plain_call(&items[count]) {
+    while count < items.len() {
+        if !is_plain_call(&items[count]) {
+            break;
+        }
         count += 1;
     }
     count as u64
@@ -51,12 +54,26 @@ fn plain_calls(calls: &Calls) -> u64
 
 // Whether the table is one of one group that is never split.
 fn is_plain_table(geometry: &Geometry) -> bool
-    ensures { (tries : _) → result ≡ is_plain_table (sizes_of geometry.now tries) }
+    ensures { result ≡ is_plain_table (sizes_of geometry.now 0) }
 {
     geometry.groups == 1
         && geometry.max_depth == 0
         && geometry.first_depth == 0
         && geometry.nodes == 1
+}
+
+// Whether the lines behind the first two are of this form.
+fn is_plain_content(script: &Script, listed: &Listed, items: &Items) -> bool
+    requires listed { listed.now ≡ script.now.content.hashes }
+    requires items { items.now.items ≡ flat_map (λ line. line) script.now.content.schedules }
+    ensures { result ≡ is_plain_content script.now.content }
+{
+    listed.len() == 0
+        && script.clients() == 1
+        && script.stop(0).is_none()
+        && items.len() == 0
+        && script.calls(0).len() <= MOST_CALLS
+        && are_plain(script.calls(0))
 }
 
 /// Whether a script, of which these are the listed hashes and the items of its schedule, is of this form.
@@ -65,14 +82,9 @@ pub fn is_plain(script: &Script, listed: &Listed, items: &Items) -> bool
     requires items { items.now.items ≡ flat_map (λ line. line) script.now.content.schedules }
     ensures { result ≡ is_plain (told_of script.now) }
 {
-    if script.version() != 1 || !is_plain_table(&script.geometry()) {
-        return false;
-    }
-    if listed.len() != 0 || script.clients() != 1 || !items.is_empty() {
-        return false;
-    }
-    let calls = script.calls(0);
-    script.stop(0).is_none() && calls.len() <= MOST_CALLS && are_plain(calls)
+    script.version() == 1
+        && is_plain_table(&script.geometry())
+        && is_plain_content(script, listed, items)
 }
 
 /// What this player lacks first of a script of another form, of which these are the listed hashes. It goes away once all
@@ -94,6 +106,7 @@ pub fn lacked(script: &Script, listed: &Listed) -> Refusal
             kind: ScriptKind::Table,
         };
     }
+    script.is_script();
     let line = if listed.len() == 0 {
         4 + plain_calls(script.calls(0))
     } else {
