@@ -1,5 +1,5 @@
 -- Places that are done with: after a clear position a place never again has a live or moved word of a leaving key.
-use Rattle.std.specs.Prelude.{not, nat_lt, ◌≡◌, ◌≢◌, ℕ, zero, suc, ◌+◌, ◌<◌, ◌≤◌, Bool, true, false, cond, ◌&&◌, ◌==◌, List, [], ◌∷◌, Option, Some, None, refl}
+use Rattle.std.specs.Prelude.{not, nat_le, nat_lt, ◌≡◌, ◌≢◌, ℕ, zero, suc, ◌+◌, ◌<◌, ◌≤◌, Bool, true, false, cond, ◌&&◌, ◌==◌, List, [], ◌∷◌, Option, Some, None, refl}
 use Rattle.std.proofs.Common.{sym, ◌∙◌, ap, subst, arith, ⊎_elim}
 use Rattle.slot_word.specs.declared.slots.Mark.{Mark}
 use Rattle.slot_word.specs.declared.slots.Mark.TheVariants.{Live, Pending, Copied, Moved}
@@ -44,8 +44,13 @@ unpacked-empty = refl
 pub some_words : (g : Geometry) (past : Past) (b : Body) (q : Pair) → pair_at g past b ≡ Some q → 0 < b.length
 some_words g past b q h = by b.length refl
   where
+    no_pair : (c : Bool) (ws : List ℕ) → unpacked ws ≡ None → cond c (unpacked ws) None ≡ None
+    no_pair true ws h = h
+    no_pair false ws h = refl
     by : (n : ℕ) → b.length ≡ n → 0 < b.length
-    by zero e = let x = ap (λ n. unpacked (words_at g past b.at n)) e in let y = unpacked-empty in absurd (cc)
+    by zero e =
+        let x = ap (λ n. unpacked (words_at g past b.at n)) e in let y = unpacked-empty in
+        let z = no_pair (nat_le (b.at + b.length) g.words) (words_at g past b.at b.length) (x ∙ y) in absurd (cc)
     by (suc n) e = omega arith
 
 -- the same table at an address

@@ -294,7 +294,7 @@ module _ (s : Setting) (past : Past) (e : Entry) (m : Meets s past e) (so : Soun
 
   -- a named block stays named, and packs the same pair
   pub packs_kept : (b : Body) → Named s.geometry past b → pair_at s.geometry (e ∷ past) b ≡ pair_at s.geometry past b
-  packs_kept b n = ap unpacked (words_kept s.geometry past e b.at b.length (λ a h k. heap_kept a (named_heap s.geometry past so b n a h k) (n.published a h k)))
+  packs_kept b n = ap (λ ws. cond (nat_le (b.at + b.length) s.geometry.words) (unpacked ws) None) (words_kept s.geometry past e b.at b.length (λ a h k. heap_kept a (named_heap s.geometry past so b n a h k) (n.published a h k)))
 
   pub named_kept : (b : Body) → Named s.geometry past b → Named s.geometry (e ∷ past) b
   named_kept b n = record {
@@ -320,7 +320,7 @@ module _ (s : Setting) (past : Past) (e : Entry) (l : Legal s past) (m : Meets s
       cc
 
   pub fresh_packs : (t p c : ℕ) (b : Body) (q : Pair) → role s.geometry past e.at ≡ SlotWord t p → IsFresh s past c t p b q → pair_at s.geometry (e ∷ past) b ≡ Some q
-  fresh_packs t p c b q r f = ap unpacked (words_kept s.geometry past e b.at b.length (λ a h k. word_kept s.geometry past e a (fresh_apart t p c b q r f a h k))) ∙ f.packs
+  fresh_packs t p c b q r f = ap (λ ws. cond (nat_le (b.at + b.length) s.geometry.words) (unpacked ws) None) (words_kept s.geometry past e b.at b.length (λ a h k. word_kept s.geometry past e a (fresh_apart t p c b q r f a h k))) ∙ f.packs
 
   -- the block that an entry names for the first time is named
   fresh_named : (t p c : ℕ) (mk : Mark) (b : Body) (q : Pair) → role s.geometry past e.at ≡ SlotWord t p → content e.new ≡ Full mk b → IsFresh s past c t p b q → Named s.geometry (e ∷ past) b

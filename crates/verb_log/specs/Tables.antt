@@ -26,9 +26,9 @@ abbrev pub words_at : Geometry → Past → ℕ → ℕ → List ℕ
 words_at g past a zero = []
 words_at g past a (suc n) = word_at g past a ∷ words_at g past (suc a) n
 
--- the pair of the block that a slot word names
+-- the pair of the block that a slot word names, where the memory has all its words
 abbrev pub pair_at : Geometry → Past → Body → Option Pair
-pair_at g past b = unpacked (words_at g past b.at b.length)
+pair_at g past b = cond (nat_le (b.at + b.length) g.words) (unpacked (words_at g past b.at b.length)) None
 
 -- the older of two answers
 abbrev pub or_else : Option ℕ → Option ℕ → Option ℕ

@@ -54,7 +54,7 @@ impl Log {
     {
         let entry = self.entry(n);
         match self.role_at(n, entry.at) {
-            Role::Slot => slot_change(self.geometry(), words, &entry),
+            Role::Slot => slot_change(words, &entry),
             _ => None,
         }
     }
