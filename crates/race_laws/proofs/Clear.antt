@@ -47,6 +47,7 @@ some_words g past b q h = by b.length refl
     no_pair : (c : Bool) (ws : List ℕ) → unpacked ws ≡ None → cond c (unpacked ws) None ≡ None
     no_pair true ws h = h
     no_pair false ws h = refl
+
     by : (n : ℕ) → b.length ≡ n → 0 < b.length
     by zero e =
         let x = ap (λ n. unpacked (words_at g past b.at n)) e in let y = unpacked-empty in

@@ -1,3 +1,5 @@
+ghost use Rattle.std.specs.Prelude.{◌<◌};
+
 use crate::leaves;
 use kv_block::{Key, Value};
 use map_model::{Call, MapMachine, Reply};
@@ -65,18 +67,12 @@ fn mark_at(log: &Log, at: u64) -> Option<Mark>
 
 // How many holders `k` has: a live word, or a copy where the parent's is moved.
 fn holders(parent: Option<Mark>, child: Option<Mark>) -> u32 {
-    let copied = child == Some(Mark::Copied) && parent == Some(Mark::Moved);
-    let mut count = 0;
-    for held in [
-        parent == Some(Mark::Live),
-        child == Some(Mark::Live),
-        copied,
-    ] {
-        if held {
-            count += 1;
-        }
+    match (parent, child) {
+        (Some(Mark::Live), Some(Mark::Live)) => 2,
+        (Some(Mark::Live), _) | (_, Some(Mark::Live)) | (Some(Mark::Moved), Some(Mark::Copied)) =>
+            1,
+        _ => 0,
     }
-    count
 }
 
 // Pushes the steps of both lists, and answers how many holders `k` has then and whether the map has it.

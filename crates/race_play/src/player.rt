@@ -10,11 +10,11 @@ ghost use Rattle.race_play.specs.Refusals.{refusal_of};
 ghost use Rattle.race_play.specs.declared.refusal.Refusal.{Refusal};
 ghost use Rattle.race_play.specs.declared.player.PlayFault.TheVariants.{OutOfMemory, Refused};
 
+use crate::refusal::{Refusal, is_plain, lacked};
 use crate::table::Table;
 use map_model::{Calls, Nexts, Reply};
 use std::alloc::{AllocError, Global};
 use trace_script::{Line, Lines, Mode, Script, ScriptFault, Tag, Text, read_script, report_text};
-use crate::refusal::{Refusal, is_plain, lacked};
 
 /// Why there is no report.
 #[derive(Clone, Copy, Debug, PartialEq, Eq)]
@@ -103,10 +103,8 @@ fn report(alloc: Global, script: &Script) -> Result<Text, AllocError>
 /// form, with the first line that breaks a rule, else the first that this player lacks.
 pub fn replay_text(alloc: Global, bytes: &[u8]) -> Result<Text, PlayFault>
     ensures text { IfOk result (λ text. Replays bytes.now text.items) }
-    ensures refused {
-        (refusal : Refusal) → result ≡ Err (Refused refusal)
-            → (plain_script bytes.now ≡ None) × (refusal_of bytes.now ≡ Some (refusal.line, refusal.kind))
-    }
+    ensures refused { (refusal : Refusal) → result ≡ Err (Refused refusal)
+        → (plain_script bytes.now ≡ None) × (refusal_of bytes.now ≡ Some (refusal.line, refusal.kind)) }
 {
     let script = match read_script(alloc, bytes) {
         Ok(script) => script,

@@ -238,12 +238,65 @@ fn faults(rt: HostRuntime) -> Result<(), Fail> {
     Ok(())
 }
 
-// No proper prefix of the smallest run's script is a script.
+// No proper prefix of the smallest run's script is a script: its last line has no line feed, or there is no `end`.
 #[test]
 fn cut_scripts(rt: HostRuntime) -> Result<(), Fail> {
     let script = SMALLEST_RUN_SCRIPT;
-    for len in 0..script.len() {
-        expect(&rt, rt.alloc(), &script[..len], &[], &[], 4096, 3, b"")?;
+    let mut line = *b"refused line 1 end\n";
+    for (len, byte) in script.iter().enumerate() {
+        expect(&rt, rt.alloc(), &script[..len], &[], &[], 4096, 3, &line)?;
+        if *byte == b'\n' {
+            line[13] = line[13].wrapping_add(1);
+        }
+    }
+    Ok(())
+}
+
+// Scripts of the grammar that are not played yet are refused at the first line that is not, and a sink that fails takes a part
+// of that line.
+#[test]
+fn refused_scripts(rt: HostRuntime) -> Result<(), Fail> {
+    for (script, line) in [
+        (
+            b"race 2\ntable groups=1 depth=0 first=0 nodes=1 words=100 tries=3\nclient a\nend\n".as_slice(),
+            b"refused line 1 header\n".as_slice(),
+        ),
+        (
+            b"race 1\ntable groups=2 depth=0 words=100 tries=3\nclient a\nend\n",
+            b"refused line 2 table\n",
+        ),
+        (
+            b"race 1\ntable groups=1 depth=1 words=100 tries=3\nhash k 0000000000000001\nclient a\nend\n",
+            b"refused line 2 table\n",
+        ),
+        (
+            b"race 1\ntable groups=1 depth=0 words=100 tries=3\nhash k 0000000000000001\nclient a\ndelete k\nend\n",
+            b"refused line 3 word\n",
+        ),
+        (
+            b"race 1\ntable groups=1 depth=0 words=100 tries=3\nclient a\nsearch k\ndelete k\nclient b\nend\n",
+            b"refused line 5 word\n",
+        ),
+        (
+            b"race 1\ntable groups=1 depth=0 words=100 tries=3\nclient a\ninsert k 1\nsearch k\nclient b\nend\n",
+            b"refused line 6 word\n",
+        ),
+        (
+            b"race 1\ntable groups=1 depth=0 words=100 tries=3\nclient a\nstop a 3\nend\n",
+            b"refused line 4 word\n",
+        ),
+        (
+            b"race 1\ntable groups=1 depth=0 words=100 tries=3\nclient a\nsearch k\nschedule a*5\nend\n",
+            b"refused line 5 word\n",
+        ),
+        (
+            b"race 1\ntable groups=1 depth=0 words=100 tries=3\nclient a\ninsert k 1\nsearch\nend\n",
+            b"refused line 5 word\n",
+        ),
+    ] {
+        expect(&rt, rt.alloc(), script, &[], &[], 4096, 3, line)?;
+        expect(&rt, rt.alloc(), script, &[], &[1], 4096, 3, b"")?;
+        expect(&rt, rt.alloc(), script, &[], &[], 10, 3, b"refused li")?;
     }
     Ok(())
 }

@@ -68,9 +68,7 @@ pub fn race<S: Source, K: Sink>(
     ensures played { result.status ≡ 0 → Plays (S.left source.old) (S.left source.new) (K.taken sink.old) (K.taken sink.new) }
 
     // The bytes are no script of this form, and the line of their refusal was written.
-    ensures refused {
-        result.status ≡ 3 → Refuses (S.left source.old) (S.left source.new) (K.taken sink.old) (K.taken sink.new) (K.faults sink.old) (K.faults sink.new)
-    }
+    ensures refused { result.status ≡ 3 → Refuses (S.left source.old) (S.left source.new) (K.taken sink.old) (K.taken sink.new) (K.faults sink.old) (K.faults sink.new) }
 
     // The source failed: its count of faults rose.
     ensures failed { result.status ≡ 4 → Rose (S.faults source.old) (S.faults source.new) }

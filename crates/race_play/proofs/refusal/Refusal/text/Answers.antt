@@ -6,5 +6,5 @@ use Rattle.race_play.proofs.refusal.Refusal.text.Goals as goal
 pub returns : goal.returns
 returns c =
     if-ok _ _ c.format.result
-      (λ text e. e ∙ ap (λ (w : List ℕ). codes "refused line " ++ (decimal c.args.self.now.line ++ (32 ∷ (w ++ 10 ∷ [])))) c.kind_word-word.ensures)
-      c.format.ensures.ok
+    (λ text e. e ∙ ap (λ (w : List ℕ). codes "refused line " ++ (decimal c.args.self.now.line ++ (32 ∷ (w ++ 10 ∷ [])))) c.kind_word-word.ensures)
+    c.format.ensures.ok
