@@ -1,8 +1,8 @@
-ghost use Rattle.std.specs.Prelude.{◌<◌};
+ghost use Rattle.std.specs.Prelude.{◌≡◌, ◌<◌, IfOk};
 
 use crate::leaves;
 use kv_block::{Key, Value};
-use map_model::{Call, MapMachine, Reply};
+use map_model::{Call, Reply, map_at};
 use node_words::Geometry;
 use slot_word::{Head, Mark, State, read_slot};
 use std::alloc::Global;
@@ -75,12 +75,13 @@ fn holders(parent: Option<Mark>, child: Option<Mark>) -> u32 {
     }
 }
 
-// Pushes the steps of both lists, and answers how many holders `k` has then and whether the map has it.
-fn play(rt: &impl Abort, alloc: Global, steps: &[Step]) -> Result<(u32, bool), Fail> {
-    let geometry = Geometry::check(1, 2, 0, 1, 200)?;
+// The log of these steps, each of which has its kind.
+fn logged(rt: &impl Abort, alloc: Global, geometry: Geometry, steps: &[Step]) -> Result<Log, Fail>
+    ensures { IfOk result (λ log. log.geometry ≡ geometry) }
+{
     let mut log = Log::new(alloc, geometry);
-    for &(at, old, new, _) in OPENED.iter().chain(steps) {
-        assert!(rt; at < 200);
+    for &(at, old, new, _) in steps {
+        assert!(rt; at < geometry.words, "the address {at}");
         let found = log.word(at);
         assert_eq!(rt; found, old, "the word at {at}");
         log.push(Entry {
@@ -90,22 +91,26 @@ fn play(rt: &impl Abort, alloc: Global, steps: &[Step]) -> Result<(u32, bool), F
             new,
         })?;
     }
-    for (n, &(_, _, _, kind)) in OPENED.iter().chain(steps).enumerate() {
+    for (n, &(_, _, _, kind)) in steps.iter().enumerate() {
         let number = n as u64;
-        assert!(rt; number < log.len());
+        assert!(rt; number < log.len(), "{n} entries");
         assert!(rt; log.kind_of(number) == Some(kind), "the kind of entry {n}");
     }
+    Ok(log)
+}
+
+// How many holders `k` has after the steps, and the reply of a search by the changes of the map.
+fn play(rt: &impl Abort, alloc: Global, steps: &[Step]) -> Result<(u32, Option<Reply>), Fail> {
+    let geometry = Geometry::check(1, 2, 0, 1, 200)?;
+    let mut all = Vec::new(alloc);
+    all.extend_from_slice(OPENED)?;
+    all.extend_from_slice(steps)?;
+    let log = logged(rt, alloc, geometry, &all)?;
     let held = holders(mark_at(&log, PARENT), mark_at(&log, CHILD));
-    let mut map = MapMachine::new(alloc);
-    for change in log.changes(alloc)?.as_slice() {
-        map.apply(change)?;
-    }
+    let changes = log.changes(alloc)?;
+    let mut map = map_at(alloc, &changes, changes.len() as u64)?;
     let key = Key::from_bytes(b"k").ok_or("no key")?;
-    let one = Value::from_bytes(b"1").ok_or("no value")?;
-    Ok((
-        held,
-        map.step(&Call::Search { key })? == Some(Reply::Found(one)),
-    ))
+    Ok((held, map.step(&Call::Search { key })?))
 }
 
 /// Each entry has its kind, and the map has `k`. In a legal move it has one holder all along; where a row's clause fails it has
@@ -127,8 +132,10 @@ fn what_falls_without_a_clause(rt: HostRuntime) -> Result<(), Fail> {
         ("a Clear beside a copy", &[TO_COPY, TO_FLIP, TO_CLEAR], 0),
     ];
     for (name, steps, held) in rows {
-        let found = play(&rt, rt.alloc(), steps)?;
-        assert!(rt; found == (held, true), "{name}");
+        let (found, reply) = play(&rt, rt.alloc(), steps)?;
+        let one = Value::from_bytes(b"1").ok_or("no value")?;
+        assert_eq!(rt; found, held, "{name}");
+        assert!(rt; reply == Some(Reply::Found(one)), "{name}");
     }
     Ok(())
 }
