@@ -58,6 +58,16 @@ const TO_CLEAR: Step = (PARENT, MOVED, 0, Kind::Clear);
 
 const TO_UNCOPY: Step = (CHILD, COPY, 0, Kind::Uncopy);
 
+/// `k` is inserted once more, with the same value, into the child, by a client that did not look for it.
+const INSERT_AGAIN: &[Step] = &[
+    (0, 97, 100, Kind::Take),
+    (97, 0, 65537, Kind::Store),
+    (98, 0, 107, Kind::Store),
+    (99, 0, 49, Kind::Store),
+    (CHILD, 0, 914793674309729, Kind::Place),
+    (CHILD, 914793674309729, 844424930132065, Kind::Commit),
+];
+
 // The mark of the slot word at an address.
 fn mark_at(log: &Log, at: u64) -> Option<Mark>
     requires { at < log.now.geometry.words }
@@ -117,13 +127,14 @@ fn play(rt: &impl Abort, alloc: Global, steps: &[Step]) -> Result<(u32, Option<R
 /// none, or two.
 #[test]
 fn what_falls_without_a_clause(rt: HostRuntime) -> Result<(), Fail> {
-    let rows: [(&str, &[Step], u32); 8] = [
+    let rows: [(&str, &[Step], u32); 9] = [
         ("legal: not moved yet", &[], 1),
         ("legal: flipped", &[TO_COPY, TO_FLIP], 1),
         ("legal: moved", &[TO_COPY, TO_FLIP, TO_SETTLE, TO_CLEAR], 1),
         ("legal: the copy is taken back", &[TO_COPY, TO_UNCOPY], 1),
         ("a Flip with no copy", &[TO_FLIP], 0),
         ("a Settle with no moved word", &[TO_COPY, TO_SETTLE], 2),
+        ("a Commit with no sweep", INSERT_AGAIN, 2),
         (
             "an Uncopy beside a moved word",
             &[TO_COPY, TO_FLIP, TO_UNCOPY],
