@@ -132,7 +132,7 @@ impl Sink for MemorySink<'_> {
 pub struct CleanSink;
 
 impl CleanSink {
-    /// The sink.
+    /// The sink. There is one value of this type, so there is nothing for a clause to say.
     pub fn new() -> CleanSink {
         CleanSink
     }
