@@ -4,8 +4,9 @@ use Rattle.std.specs.Io.KnownBytes.{Appends, IsAtEnd}
 use Rattle.race_io.specs.Transfer.{TakesAll, AppendsPart}
 use Rattle.race_io.specs.Counts.{Rose}
 use Rattle.trace_script.specs.Rules.{Refusal}
+use Rattle.trace_script.specs.Refused.{refusal_line}
 use Rattle.race_play.specs.Plays.{Replays, plain_script}
-use Rattle.race_play.specs.Refusals.{refusal_of, refusal_line}
+use Rattle.race_play.specs.Refusals.{refusal_of}
 
 -- all bytes were read, and the report of their script was written
 pub record Plays (left_old left_new taken_old taken_new : Option (List ℕ)) : Type 0 where

@@ -1,6 +1,5 @@
 -- The line of a script that is refused: the first that breaks a rule of the grammar, else the first that this player lacks.
-use Rattle.std.specs.Prelude.{◌≡◌, ℕ, ◌+◌, ◌==◌, ◌&&◌, not, Bool, true, false, List, [], ◌∷◌, ◌++◌, length, codes, Option, Some, None, Result, Ok, Err, if◌then◌else◌}
-use Rattle.std.specs.Fmt.{decimal}
+use Rattle.std.specs.Prelude.{◌≡◌, ℕ, ◌+◌, ◌==◌, ◌&&◌, not, Bool, true, false, List, [], ◌∷◌, ◌++◌, length, Option, Some, None, Result, Ok, Err, if◌then◌else◌}
 use Rattle.map_model.specs.declared.calls.Call.{Call}
 use Rattle.trace_script.specs.declared.fault.ScriptKind.{ScriptKind}
 use Rattle.trace_script.specs.declared.fault.ScriptKind.TheVariants as kind
@@ -33,20 +32,3 @@ refused (Err refusal) = Some refusal
 -- the refusal of bytes
 abbrev pub refusal_of : List ℕ → Option Refusal
 refusal_of bytes = refused (script_of bytes)
-
--- the word of a kind
-abbrev pub kind_word : ScriptKind → List ℕ
-kind_word kind.Header = codes "header"
-kind_word kind.Table = codes "table"
-kind_word kind.Word = codes "word"
-kind_word kind.Key = codes "key"
-kind_word kind.Value = codes "value"
-kind_word kind.Number = codes "number"
-kind_word kind.Client = codes "client"
-kind_word kind.Schedule = codes "schedule"
-kind_word kind.TooLong = codes "too-long"
-kind_word kind.End = codes "end"
-
--- the line that tells a refusal
-abbrev pub refusal_line : Refusal → List ℕ
-refusal_line refusal = codes "refused line " ++ (decimal refusal.0 ++ (32 ∷ (kind_word refusal.1 ++ 10 ∷ [])))

@@ -1,17 +1,17 @@
 // The scripts that this player lacks, and the line that tells a refusal.
 ghost use Rattle.std.specs.Prelude.{◌≡◌, ◌≤◌, ◌&&◌, IfOk, length, true, flat_map};
-ghost use Rattle.std.specs.String.{string_bytes};
 ghost use Rattle.std.specs.List.{list_all};
 ghost use Rattle.trace_script.specs.Gives.{told_of};
 ghost use Rattle.trace_script.specs.Content.{sizes_of};
 ghost use Rattle.race_play.specs.Plays.{is_plain_table, is_plain_content, is_plain_call, is_plain};
-ghost use Rattle.race_play.specs.Refusals.{plain_calls, lacked, kind_word, refusal_line};
+ghost use Rattle.race_play.specs.Refusals.{plain_calls, lacked};
+ghost use Rattle.trace_script.specs.Refused.{refusal_line};
 
 use key_hash::Listed;
 use map_model::{Call, Calls, Items};
 use node_words::Geometry;
 use std::alloc::{AllocError, Global};
-use trace_script::{Script, ScriptKind};
+use trace_script::{Script, ScriptKind, Text, refusal_text};
 
 /// The most calls of a script.
 const MOST_CALLS: usize = 65_536;
@@ -118,30 +118,11 @@ pub fn lacked(script: &Script, listed: &Listed) -> Refusal
     }
 }
 
-// The word of a kind.
-fn kind_word(kind: ScriptKind) -> &'static str
-    ensures { result.now ≡ kind_word kind }
-{
-    match kind {
-        ScriptKind::Header => "header",
-        ScriptKind::Table => "table",
-        ScriptKind::Word => "word",
-        ScriptKind::Key => "key",
-        ScriptKind::Value => "value",
-        ScriptKind::Number => "number",
-        ScriptKind::Client => "client",
-        ScriptKind::Schedule => "schedule",
-        ScriptKind::TooLong => "too-long",
-        ScriptKind::End => "end",
-    }
-}
-
 impl Refusal {
     /// The line that tells the refusal.
-    pub fn text(&self, alloc: Global) -> Result<String, AllocError>
-        ensures { IfOk result (λ text. string_bytes text ≡ refusal_line (self.now.line, self.now.kind)) }
+    pub fn text(&self, alloc: Global) -> Result<Text, AllocError>
+        ensures { IfOk result (λ text. text.items ≡ refusal_line (self.now.line, self.now.kind)) }
     {
-        let (line, word) = (self.line, kind_word(self.kind));
-        format!(in alloc; "refused line {line} {word}\n")
+        refusal_text(alloc, self.line, self.kind)
     }
 }

@@ -40,7 +40,7 @@ fn refuse<K: Sink>(alloc: Global, refusal: &Refusal, sink: &mut K) -> Ended
     let Ok(text) = refusal.text(alloc) else {
         return Ended { status: 6 };
     };
-    let _ = put_all(sink, text.as_bytes());
+    let _ = put_all(sink, text.as_slice());
     Ended { status: 3 }
 }
 

@@ -32,7 +32,7 @@ hash-again c key hash h =
     ap (λ o. or_else kind.Key o >>= others) (key_of-spelled key h.0) ∙ cond-false _ _ _ h.2 ∙ ap (λ o. or_else kind.Number o >>= told key) (hex_number_of-hex_number hash h.1)
 
 -- `client NAME`
-pub client-again : (most : ℕ) (c : Content) (e : List ℕ × List Call) → IsClient most c.clients e → client_step most c (e.0 ∷ []) ≡ Ok (with_client c e.0)
+pub client-again : (most : ℕ) (c : Content) (e : List ℕ × List Call) → IsClient most c.clients e → client_step most c (e.0 ∷ []) ≡ Ok (with_client c e.0 [])
 client-again most c e h = cond-true _ _ _ (and_from _ _ (and_from _ _ h.0 (ap is_none h.1)) (lt-ltb (length c.clients) most h.2))
 
 -- a call's line

@@ -114,14 +114,14 @@ hash-found c d words h =
 
 -- `client NAME`
 pub client-found : (most : ℕ) (c d : Content) (words : List (List ℕ)) → client_step most c words ≡ Ok d
-    → (name : List ℕ) × (words ≡ name ∷ []) × (d ≡ with_client c name) × IsClient most c.clients (name, [])
+    → (name : List ℕ) × (words ≡ name ∷ []) × (d ≡ with_client c name []) × IsClient most c.clients (name, [])
 client-found most c d words h =
     let a = ok_bind (or_else kind.Word (one_of words)) _ d h in
     let word = one-found words a.0 (ok_or_else kind.Word (one_of words) a.0 a.1) in
     let b = ok_if (is_name a.0 && is_none (client_at c a.0) && nat_lt (length c.clients) most) kind.Client _ d a.2 in
     let p = and_parts _ _ b.0 in
     let q = and_parts _ _ p.0 in
-    (a.0, word, sym (ok_same (with_client c a.0) d b.1), (q.0, no_client (client_at c a.0) q.1, ltb-true (length c.clients) most p.1, tt))
+    (a.0, word, sym (ok_same (with_client c a.0 []) d b.1), (q.0, no_client (client_at c a.0) q.1, ltb-true (length c.clients) most p.1, tt))
   where
     no_client : (o : Option ℕ) → is_none o ≡ true → o ≡ None
     no_client None e = refl

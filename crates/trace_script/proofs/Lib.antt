@@ -16,6 +16,8 @@ pub mod Taken
 pub mod FoundScript
 pub mod FoundHead
 pub mod Plain
+pub mod OfCalls
+pub mod OfCallsScript
 pub mod Again
 pub mod AgainLines
 pub mod AgainScript

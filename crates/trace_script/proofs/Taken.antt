@@ -151,7 +151,7 @@ module _ (most : ℕ) (r : Reading) (h : IsReading most r) where
       let no_schedule = nothing r.content.schedules tests.1 in
       let a = content-found r s _ (going-found _ s e) in
       let b = client-found most r.content a.0 words a.1 in
-      let c : Content = with_client r.content b.0 in
+      let c : Content = with_client r.content b.0 [] in
       let line : List (List ℕ) = codes "client" ∷ b.0 ∷ [] in
       let more : List (List ℕ × List Call) = r.content.clients ++ (b.0, []) ∷ [] in
       let text : content_words c ≡ content_words r.content ++ line ∷ [] =

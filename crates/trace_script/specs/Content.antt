@@ -61,8 +61,8 @@ stop_at c client = lookup (nat_eq client) c.stops
 abbrev pub with_hash : Content → List ℕ → ℕ → Content
 with_hash c key hash = record c { hashes = c.hashes ++ (key, hash) ∷ [] }
 
-abbrev pub with_client : Content → List ℕ → Content
-with_client c name = record c { clients = c.clients ++ (name, []) ∷ [] }
+abbrev pub with_client : Content → List ℕ → List Call → Content
+with_client c name calls = record c { clients = c.clients ++ (name, calls) ∷ [] }
 
 -- the clients, the last of them with one call more
 abbrev pub called : List (List ℕ × List Call) → Call → List (List ℕ × List Call)

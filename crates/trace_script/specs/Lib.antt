@@ -6,5 +6,7 @@ pub mod Rules
 pub mod Gives
 pub mod Drafts
 pub mod Tables
+pub mod Refused
 pub mod Report
 pub mod Valid
+pub mod Made

@@ -78,7 +78,7 @@ abbrev pub client_step : ℕ → Content → List (List ℕ) → Result Content 
 client_step most c words = do
   name ← or_else kind.Word (one_of words)
   if is_name name && is_none (client_at c name) && nat_lt (length c.clients) most
-      then Ok (with_client c name)
+      then Ok (with_client c name [])
       else Err kind.Client
 
 -- the client of a name, where the name is not misspelt

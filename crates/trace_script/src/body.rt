@@ -171,12 +171,12 @@ impl Body {
         Ok(())
     }
 
-    pub fn add_client(&mut self, alloc: Global, name: Name) -> Result<(), AllocError>
+    pub fn add_client(&mut self, name: Name, calls: Calls) -> Result<(), AllocError>
         requires fresh { client_at self.old name ≡ None }
         requires few { length self.old.clients < 64 }
-        ensures { OnOk result (self.new ≡ with_client self.old name) }
+        ensures { OnOk result (self.new ≡ with_client self.old name calls.items) }
     {
-        self.clients.insert(name, Calls::new(alloc))?;
+        self.clients.insert(name, calls)?;
         Ok(())
     }
 
@@ -215,7 +215,7 @@ fn call_last(clients: &mut IndexMap<Name, Calls>, call: Call) -> Result<(), Allo
     calls.push(call)
 }
 
-fn append(items: &mut Items, more: &[Item]) -> Result<(), AllocError>
+pub fn append(items: &mut Items, more: &[Item]) -> Result<(), AllocError>
     ensures { OnOk result (items.new.items ≡ items.old.items ++ more.now) }
 {
     for item in more {

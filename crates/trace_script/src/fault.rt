@@ -1,8 +1,10 @@
 //! Why bytes are no script.
-ghost use Rattle.std.specs.Prelude.{◌≡◌};
+ghost use Rattle.std.specs.Prelude.{◌≡◌, IfOk};
 ghost use Rattle.trace_script.specs.declared.fault.Halt.TheVariants.{OutOfMemory};
+ghost use Rattle.trace_script.specs.Refused.{kind_word, refusal_line};
 
-use std::alloc::{AllocError, AllocFailed};
+use crate::text::Text;
+use std::alloc::{AllocError, AllocFailed, Global};
 use thiserror::Error;
 
 /// What is wrong with a line of a script.
@@ -32,12 +34,46 @@ pub enum ScriptKind {
     End,
 }
 
+impl ScriptKind {
+    /// The kind's word, as a refusal has it: `header`, `table`, `word`, `key`, `value`, `number`, `client`, `schedule`,
+    /// `too-long` or `end`.
+    pub fn word(self) -> &'static str
+        ensures { result.now ≡ kind_word self }
+    {
+        match self {
+            ScriptKind::Header => "header",
+            ScriptKind::Table => "table",
+            ScriptKind::Word => "word",
+            ScriptKind::Key => "key",
+            ScriptKind::Value => "value",
+            ScriptKind::Number => "number",
+            ScriptKind::Client => "client",
+            ScriptKind::Schedule => "schedule",
+            ScriptKind::TooLong => "too-long",
+            ScriptKind::End => "end",
+        }
+    }
+}
+
+/// The line that tells a refusal: `refused line N KIND` and a line feed.
+pub fn refusal_text(alloc: Global, line: u64, kind: ScriptKind) -> Result<Text, AllocError>
+    ensures { IfOk result (λ text. text.items ≡ refusal_line (line, kind)) }
+{
+    let mut text = Text::new(alloc);
+    text.put(b"refused line ")?;
+    text.put_number(line)?;
+    text.push(b' ')?;
+    text.put(kind.word().as_bytes())?;
+    text.push(b'\n')?;
+    Ok(text)
+}
+
 /// Why there is no script.
 #[derive(Clone, Copy, Debug, PartialEq, Eq, Drop, Error)]
 pub enum ScriptFault {
     /// The first line that breaks a rule, counted from 1, or 0 where there are too many bytes; and the first rule that
     /// it breaks.
-    #[error("line {line} is refused")]
+    #[error("refused line {line} {word}", word = .kind.word())]
     Refused { line: u64, kind: ScriptKind },
     /// Want of memory.
     #[error("out of memory")]

@@ -12,6 +12,7 @@ mod command;
 mod draft;
 mod fault;
 mod lines;
+mod made;
 mod name;
 mod reading;
 mod report;
@@ -21,7 +22,7 @@ mod text;
 mod word;
 mod writing;
 
-pub use fault::{ScriptFault, ScriptKind};
+pub use fault::{ScriptFault, ScriptKind, refusal_text};
 pub use map_model::{Item, Items, Plan, Plans};
 pub use reading::{one_text, read_script};
 pub use report::{Line, Lines, Mode, Tag, reply_text, report_text};

@@ -9,7 +9,7 @@ use crate::body::Body;
 use crate::fault::{Halt, ScriptKind};
 use crate::name::{Name, is_byte_of_name};
 use crate::word::{cut, one_word, read_hex_number, read_key, read_number, two_words};
-use map_model::{Item, Items};
+use map_model::{Calls, Item, Items};
 use std::alloc::{AllocError, Global};
 
 /// The greatest stop.
@@ -58,7 +58,7 @@ impl Body {
         if self.client_at(&name).is_some() || self.clients() >= most {
             return Err(Halt::Refused(ScriptKind::Client));
         }
-        self.add_client(alloc, name)?;
+        self.add_client(name, Calls::new(alloc))?;
         Ok(())
     }
 

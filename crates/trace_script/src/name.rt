@@ -1,5 +1,5 @@
 //! Names of clients.
-ghost use Rattle.std.specs.Prelude.{◌≡◌, ℕ, ◌≤◌, length, IsTrue};
+ghost use Rattle.std.specs.Prelude.{◌≡◌, ℕ, ◌<◌, ◌≤◌, length, IfOk, IsTrue};
 ghost use Rattle.std.specs.Option.{SomeIff};
 ghost use Rattle.std.specs.Cmp.Lexicographic.{nat_list_eq_equiv};
 ghost use Rattle.std.specs.Cmp.{partial_equiv_from_equiv};
@@ -11,7 +11,9 @@ ghost use Rattle.kv_block.specs.Filled.{filled};
 ghost use Rattle.kv_block.specs.Bytes.{key_eq};
 ghost use Rattle.trace_script.specs.Spelling.{is_name_byte, is_small};
 ghost use Rattle.trace_script.specs.Words.{is_name};
+ghost use Rattle.trace_script.specs.Made.{made_name};
 
+use std::alloc::{AllocError, Global};
 use std::hash::{Hash, Hasher};
 use std::marker::Model;
 
@@ -92,6 +94,15 @@ impl Name {
             bytes: padded(bytes),
             len: bytes.len() as u8,
         })
+    }
+
+    /// The name of the client at a place, counted from 0: `c0` to `c15`.
+    pub fn of_place(alloc: Global, place: u32) -> Result<Name, AllocError>
+        requires { place < 16 }
+        ensures { IfOk result (λ name. name ≡ made_name place) }
+    {
+        let text = format!(in alloc; "c{place}")?;
+        Ok(Name::from_bytes(text.as_bytes()).unwrap())
     }
 
     /// The name's bytes.

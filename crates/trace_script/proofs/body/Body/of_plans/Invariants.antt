@@ -1,0 +1,12 @@
+use Rattle.std.proofs.Common.{◌≡◌, [], take}
+use Rattle.trace_script.specs.Content.{with_client}
+use Rattle.trace_script.specs.Valid.{Each, IsClient}
+use Rattle.trace_script.specs.Made.{made_clients, made_content}
+use Rattle.trace_script.proofs.body.Body.of_plans.Given as goal
+
+-- the clients of the plans so far
+abbrev pub invariant-loop-place : goal.invariant-loop-place
+invariant-loop-place l = record {
+  made : l.body ≡ made_content (take l.place l.plans) [];
+  clients : Each (IsClient 16) [] (made_clients 0 (take l.place l.plans));
+}

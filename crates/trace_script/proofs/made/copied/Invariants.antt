@@ -1,0 +1,11 @@
+use Rattle.std.proofs.Common.{◌≡◌, ◌++◌, drop, take}
+use Rattle.std.specs.List.{AllByRecursion}
+use Rattle.trace_script.specs.Valid.{IsCall}
+use Rattle.trace_script.proofs.made.copied.Given as goal
+
+-- the calls so far, which are known, and those that are left
+abbrev pub invariant-loop-call : goal.invariant-loop-call
+invariant-loop-call l = record {
+  same : l.copy.items ++ drop l.call-index l.calls ≡ l.calls;
+  known : AllByRecursion IsCall l.copy.items;
+}
