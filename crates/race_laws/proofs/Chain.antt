@@ -15,11 +15,11 @@ use Rattle.race_laws.specs.Standing.{IsTable, header_in, birth_in, child_in, dep
 use Rattle.race_laws.specs.Chains.{OnChain, starts, goes_on}
 use Rattle.race_laws.specs.Legal.{Legal}
 use Rattle.race_laws.proofs.Positions.{legal_before}
-use Rattle.race_laws.proofs.SoundStep.{table_before}
+use Rattle.race_laws.proofs.Covers.{table_before}
 use Rattle.race_laws.proofs.Frames.{birth_before, child_before}
 use Rattle.race_laws.proofs.Finality.{gone_before}
 use Rattle.race_laws.proofs.Splits.{Born, Splits}
-use Rattle.race_laws.proofs.SplitsStep.{filling_depth}
+use Rattle.race_laws.proofs.TablesStep.{filling_depth}
 use Rattle.race_laws.proofs.Opening.{splits}
 
 pub before_opening : (q : Past) → Before [] q

@@ -10,7 +10,8 @@ use Rattle.race_laws.specs.Splits.{IsOpen}
 use Rattle.race_laws.specs.Legal.{Meets, Legal}
 use Rattle.race_laws.proofs.Step.{HeaderStep, open_it, finish, ripen, BucketStep, begin, close, ripen_bucket}
 use Rattle.race_laws.proofs.Sound.{Sound}
-use Rattle.race_laws.proofs.SoundStep.{sound, table_before}
+use Rattle.race_laws.proofs.SoundStep.{sound}
+use Rattle.race_laws.proofs.Covers.{table_before}
 use Rattle.race_laws.proofs.Frames.{header_cases, bucket_cases}
 
 -- how a header word goes on: from h to k

@@ -15,7 +15,9 @@ use Rattle.race_laws.specs.Legal.{Meets, Legal}
 use Rattle.race_laws.proofs.Step.{SlotStep, HeaderStep, BucketStep, LockStep}
 use Rattle.race_laws.proofs.Touch.{word_put, touched}
 use Rattle.race_laws.proofs.Sound.{Sound}
-use Rattle.race_laws.proofs.SoundStep.{sound, table_before, slot_is}
+use Rattle.race_laws.proofs.SoundStep.{sound}
+use Rattle.race_laws.proofs.Covers.{table_before}
+use Rattle.race_laws.proofs.Slots.{slot_is}
 
 module _ (g : Geometry) (past : Past) (so : Sound g past) (t : ℕ) (h : IsTable g past t) where
   inside : (o : ℕ) → o < table_words g → table_of g past (t + o) ≡ Some t

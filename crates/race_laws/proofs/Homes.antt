@@ -19,11 +19,14 @@ use Rattle.race_laws.specs.Rows.{IsPlace, CommitRow}
 use Rattle.race_laws.specs.Legal.{Legal}
 use Rattle.race_laws.proofs.Step.{SlotStep, place, drop, commit, replace, remove, copy, uncopy, flip, settle, clear}
 use Rattle.race_laws.proofs.Sound.{Sound}
-use Rattle.race_laws.proofs.SoundStep.{sound, sounds, table_before, slot_is, standing_named, full_same, packs_kept, fresh_packs}
+use Rattle.race_laws.proofs.SoundStep.{sound, sounds, fresh_packs}
+use Rattle.race_laws.proofs.Covers.{table_before}
+use Rattle.race_laws.proofs.Slots.{slot_is, standing_named, full_same}
+use Rattle.race_laws.proofs.RegionsStep.{packs_kept}
 use Rattle.race_laws.proofs.Frames.{birth_kept, slot_cases}
 use Rattle.race_laws.proofs.Splits.{new_table, new_slot}
 use Rattle.race_laws.proofs.Opening.{splits, opening_empty_slot}
-use Rattle.race_laws.proofs.Clear.{same_slot}
+use Rattle.race_laws.proofs.Pending.{same_slot}
 
 -- the table from which a table was split
 abbrev pub parent_of : Geometry → Past → ℕ → ℕ

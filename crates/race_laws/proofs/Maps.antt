@@ -27,9 +27,12 @@ use Rattle.race_laws.specs.Legal.{Legal}
 use Rattle.race_laws.proofs.Step.{StepAt, step_of, SlotStep, place, drop, commit, replace, remove, copy, uncopy, flip, settle, clear}
 use Rattle.race_laws.proofs.Touch.{word_put, table_stays}
 use Rattle.race_laws.proofs.Sound.{Sound}
-use Rattle.race_laws.proofs.SoundStep.{sound, sounds, slot_place_of, standing_named, full_same, packs_kept, fresh_packs}
+use Rattle.race_laws.proofs.SoundStep.{sound, sounds, fresh_packs}
+use Rattle.race_laws.proofs.Slots.{slot_place_of, standing_named, full_same}
+use Rattle.race_laws.proofs.RegionsStep.{packs_kept}
 use Rattle.race_laws.proofs.Opening.{opening_empty_slot}
-use Rattle.race_laws.proofs.Clear.{on_slot, same_slot}
+use Rattle.race_laws.proofs.SlotKinds.{on_slot}
+use Rattle.race_laws.proofs.Pending.{same_slot}
 use Rattle.race_laws.proofs.Homes.{parent_of, Stands, as_live, as_copy, Home, Somewhere, Was, there, flipped, committed, was, one_home}
 use Rattle.race_laws.proofs.Commits.{alone}
 use Rattle.race_laws.proofs.Onward.{Onward, stays, renewed, flips, removed, onward}

@@ -19,7 +19,9 @@ use Rattle.race_laws.specs.Legal.{Legal}
 use Rattle.race_laws.proofs.Step.{SlotStep, place, drop, commit, replace, remove, copy, uncopy, flip, settle, clear}
 use Rattle.race_laws.proofs.Touch.{word_put, word_kept, table_stays}
 use Rattle.race_laws.proofs.Sound.{Sound}
-use Rattle.race_laws.proofs.SoundStep.{sound, sounds, slot_is, standing_named, full_same, packs_kept, fresh_packs}
+use Rattle.race_laws.proofs.SoundStep.{sound, sounds, fresh_packs}
+use Rattle.race_laws.proofs.Slots.{slot_is, standing_named, full_same}
+use Rattle.race_laws.proofs.RegionsStep.{packs_kept}
 use Rattle.race_laws.proofs.Frames.{birth_kept, slot_cases}
 use Rattle.race_laws.proofs.Opening.{splits}
 use Rattle.race_laws.proofs.Homes.{parent_of, Stands, as_live, as_copy, Home, parent_table}

@@ -20,7 +20,7 @@ use Rattle.race_laws.specs.Standing.{IsTable, header_in, birth_in, lock_in, chil
 use Rattle.race_laws.specs.Splits.{IsQuiet}
 use Rattle.race_laws.specs.Rows.{IsPlace}
 use Rattle.race_laws.specs.Legal.{Legal}
-use Rattle.race_laws.proofs.SoundStep.{content-0}
+use Rattle.race_laws.proofs.Slots.{content-0}
 use Rattle.race_laws.proofs.Positions.{legal_before}
 use Rattle.race_laws.proofs.Splits.{IsFirst, Splits}
 use Rattle.race_laws.proofs.SplitsStep.{splits_step}

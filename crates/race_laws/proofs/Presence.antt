@@ -20,15 +20,17 @@ use Rattle.race_laws.specs.Legal.{Legal}
 use Rattle.race_laws.proofs.Positions.{legal_before}
 use Rattle.race_laws.proofs.Step.{SlotStep, place, drop, commit, replace, remove, copy, uncopy, flip, settle, clear}
 use Rattle.race_laws.proofs.Sound.{Sound}
-use Rattle.race_laws.proofs.SoundStep.{sound, table_before, standing_named, full_same, packs_later}
+use Rattle.race_laws.proofs.SoundStep.{sound, packs_later}
+use Rattle.race_laws.proofs.Covers.{table_before}
+use Rattle.race_laws.proofs.Slots.{standing_named, full_same}
 use Rattle.race_laws.proofs.Frames.{birth_kept, slot_cases}
 use Rattle.race_laws.proofs.Splits.{new_table, new_slot}
 use Rattle.race_laws.proofs.Opening.{splits}
-use Rattle.race_laws.proofs.Clear.{exits_later}
+use Rattle.race_laws.proofs.Passes.{exits_later}
 use Rattle.race_laws.proofs.Chain.{chain_table}
 use Rattle.race_laws.proofs.Seats.{Seat, moved_splits}
 use Rattle.race_laws.proofs.Homes.{parent_of, parent_table, Stands, as_live, as_copy, Home}
-use Rattle.race_laws.proofs.Commits.{home_seat}
+use Rattle.race_laws.proofs.Paths.{home_seat}
 
 -- a place among a key's candidates is a slot's
 IsIn-Contains : (p : ℕ) (xs : List ℕ) → IsIn p xs → Contains xs p

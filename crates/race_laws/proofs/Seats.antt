@@ -20,11 +20,15 @@ use Rattle.race_laws.specs.Legal.{Legal}
 use Rattle.race_laws.proofs.Step.{SlotStep, place, drop, commit, replace, remove, copy, uncopy, flip, settle, clear, HeaderStep, open_it, finish, ripen}
 use Rattle.race_laws.proofs.Touch.{same_or_not}
 use Rattle.race_laws.proofs.Sound.{Sound, table_some}
-use Rattle.race_laws.proofs.SoundStep.{sound, sounds, table_before, slot_is, standing_named, full_same, named_at, packs_kept, packs_later, fresh_packs}
+use Rattle.race_laws.proofs.SoundStep.{sound, sounds, named_at, packs_later, fresh_packs}
+use Rattle.race_laws.proofs.Covers.{table_before}
+use Rattle.race_laws.proofs.Slots.{slot_is, standing_named, full_same}
+use Rattle.race_laws.proofs.RegionsStep.{packs_kept}
 use Rattle.race_laws.proofs.Frames.{birth_kept, header_cases, slot_cases}
 use Rattle.race_laws.proofs.Splits.{IsFirst, Kin, Splits, new_table, new_birth, new_header, new_slot}
 use Rattle.race_laws.proofs.Opening.{splits, opening_empty_slot, first_depth_only}
-use Rattle.race_laws.proofs.Clear.{clear_on, exits_later}
+use Rattle.race_laws.proofs.Clear.{clear_on}
+use Rattle.race_laws.proofs.Passes.{exits_later}
 use Rattle.race_laws.proofs.Chain.{chain_before}
 
 -- what was clear stays so

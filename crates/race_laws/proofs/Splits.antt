@@ -18,7 +18,10 @@ use Rattle.race_laws.specs.Legal.{Meets, Legal}
 use Rattle.race_laws.proofs.Step.{StepAt, step_of}
 use Rattle.race_laws.proofs.Touch.{word_kept}
 use Rattle.race_laws.proofs.Sound.{Sound}
-use Rattle.race_laws.proofs.SoundStep.{sound, sounds, links_child, link_row, linked_now, table_cases, content-0, role_by_offset}
+use Rattle.race_laws.proofs.SoundStep.{sound, sounds}
+use Rattle.race_laws.proofs.Covers.{links_child}
+use Rattle.race_laws.proofs.RegionsStep.{link_row, linked_now, table_cases}
+use Rattle.race_laws.proofs.Slots.{content-0, role_by_offset}
 use Rattle.race_laws.proofs.Frames.{child_is}
 
 -- c is the child of table t at level i

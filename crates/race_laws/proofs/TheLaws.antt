@@ -15,6 +15,8 @@ use Rattle.verb_log.specs.Decoded.{Body, Empty, Full, content, Header}
 use Rattle.verb_log.specs.Tables.{Past, Before, here, later, word_at, pair_at, role}
 use Rattle.verb_log.specs.Kinds.{kind}
 use Rattle.verb_log.specs.Changes.{changes}
+use Rattle.verb_log.proofs.Positions.{Before-take, length-position}
+use Rattle.verb_log.proofs.InOrder.{reverse_push}
 use Rattle.race_laws.specs.Setting.{Setting}
 use Rattle.race_laws.specs.Standing.{IsTable, IsFilling, IsGone}
 use Rattle.race_laws.specs.Chains.{Holder, live}
@@ -23,16 +25,20 @@ use Rattle.race_laws.specs.Rows.{IsPlace}
 use Rattle.race_laws.specs.Legal.{Legal, IsLegal}
 use Rattle.race_laws.specs.Laws.{position, map_in, OneHolder, KeepsPlace, keeps, goes_down, HolderPlace, HasLeft, Finality, ClearPlaces, CommitLaw, LacksBetween, Absence, Presence}
 use Rattle.race_laws.proofs.Step.{StepAt, step_of, SlotStep, place, drop, commit, replace, remove, copy, uncopy, flip, settle, clear}
-use Rattle.race_laws.proofs.SoundStep.{sound, slot_place_of}
+use Rattle.race_laws.proofs.SoundStep.{sound}
+use Rattle.race_laws.proofs.Slots.{slot_place_of}
 use Rattle.race_laws.proofs.Finality.{GoesOn, opens, finishes, ripens, gone_on, filling_on, header_keeps, bucket_keeps}
-use Rattle.race_laws.proofs.Clear.{on_slot, clear_on}
+use Rattle.race_laws.proofs.SlotKinds.{on_slot}
+use Rattle.race_laws.proofs.Clear.{clear_on}
 use Rattle.race_laws.proofs.Homes.{Somewhere, SameHome, one_home}
 use Rattle.race_laws.proofs.Tracks.{in_order_passed, no_pass}
-use Rattle.race_laws.proofs.Commits.{alone, before_length, before_same, AllHomes, HomeIn, home_track, lonely}
+use Rattle.race_laws.proofs.Commits.{alone, lonely}
+use Rattle.race_laws.proofs.Positions.{before_length, before_same, position_of, position_legal}
+use Rattle.race_laws.proofs.Paths.{AllHomes}
+use Rattle.race_laws.proofs.WordTracks.{HomeIn, home_track}
 use Rattle.race_laws.proofs.Onward.{Onward, stays, renewed, flips, removed, onward}
 use Rattle.race_laws.proofs.Maps.{map_of, map_holds, taken_none, effect, Effect, nothing, sets, takes}
 use Rattle.race_laws.proofs.Presence.{holder_home, home_holder, copy_present}
-use Rattle.race_laws.proofs.InOrder.{positions_before, position_of, position_legal, length-position, reverse_push}
 
 -- the map after all changes
 map_whole : (g : Geometry) (q : Past) → map_in g q ≡ map_of g q
@@ -46,7 +52,7 @@ one_holder s log l n h key = record {
 }
   where
     lq : Legal s (position log n)
-    lq = position_legal s log n l h
+    lq = position_legal s log n l
 
     by : {t u p r : ℕ} {b c : Body} → SameHome t u p r b c → (t ≡ u) × (p ≡ r) × (b ≡ c)
     by x = (x.table, x.place, x.body)
@@ -119,13 +125,13 @@ finality s log l n m h k t tb = (
 )
   where
     bf : Before (position log n) (position log m)
-    bf = positions_before log n m h
+    bf = Before-take log n m h
 
     lm : Legal s (position log m)
-    lm = position_legal s log m l k
+    lm = position_legal s log m l
 
 pub clear_places : ClearPlaces
-clear_places s log l n m h k t d p pl cl mark b pr w ex = clear_on s (positions_before log n m h) (position_legal s log m l k) t d p pl cl mark b pr w ex
+clear_places s log l n m h k t d p pl cl mark b pr w ex = clear_on s (Before-take log n m h) (position_legal s log m l) t d p pl cl mark b pr w ex
 
 pub commit_law : CommitLaw
 commit_law s log e lg kd b pr n pk = by (fin.get (map_in s.geometry (reverse log)) pr.key) refl
@@ -181,10 +187,10 @@ absent : (s : Setting) (log : List Entry) → IsLegal s log → (n m : ℕ) → 
 absent s log l n m h k key w = ⊎_elim (λ x. found x) (λ (a : AllHomes s key (position log n) (position log m)). absurd (none a)) (lacks_or_homes s key bf lm)
   where
     bf : Before (position log n) (position log m)
-    bf = positions_before log n m h
+    bf = Before-take log n m h
 
     lm : Legal s (position log m)
-    lm = position_legal s log m l k
+    lm = position_legal s log m l
 
     found : (z : Past) × Before (position log n) z × Before z (position log m) × (fin.get (map_of s.geometry z) key ≡ None) → LacksBetween s log n m key
     found x =
@@ -214,5 +220,5 @@ absence s log l n m h k key = ((λ w. absent s log l n m h k key (in_order_passe
 pub presence : Presence
 presence s log l m h = record {
   live = λ t p b pr w ca ch. live t p b pr w refl ca ch;
-  copy = λ n k t c p b pr ta pl ma tc pa w. copy_present s (positions_before log n m k) (position_legal s log m l h) t c p b pr ta pl ma tc pa w.stands w.packs;
+  copy = λ n k t c p b pr ta pl ma tc pa w. copy_present s (Before-take log n m k) (position_legal s log m l) t c p b pr ta pl ma tc pa w.stands w.packs;
 }

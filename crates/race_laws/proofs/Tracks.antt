@@ -11,19 +11,21 @@ use Rattle.bucket_group.proofs.ExitLaws.{exit-below}
 use Rattle.node_words.specs.Addresses.{slot_at}
 use Rattle.verb_log.specs.Decoded.{Body, Full, content}
 use Rattle.verb_log.specs.Tables.{Past, Before, here, word_at}
+use Rattle.verb_log.proofs.Positions.{Before-trans}
 use Rattle.race_laws.specs.Setting.{Setting, hash, places}
 use Rattle.race_laws.specs.Standing.{IsTable, header_in, child_in, place_in, IsFilling, Exits, Word, IsIn}
 use Rattle.race_laws.specs.Chains.{OnChain}
 use Rattle.race_laws.specs.Looks.{Reading, Searched, IsAmong, Between, InOrder, Answers, IsMiss, AllMiss, is_other, read_places, Misses, Passing, begins, goes_on, PassedBy}
 use Rattle.race_laws.specs.Rows.{IsPlace}
 use Rattle.race_laws.specs.Legal.{Legal}
-use Rattle.race_laws.proofs.Positions.{before_trans, legal_before}
+use Rattle.race_laws.proofs.Positions.{legal_before}
 use Rattle.race_laws.proofs.Touch.{same_or_not}
-use Rattle.race_laws.proofs.SoundStep.{table_before}
+use Rattle.race_laws.proofs.Covers.{table_before}
 use Rattle.race_laws.proofs.Frames.{child_before}
 use Rattle.race_laws.proofs.Finality.{ripe_before}
 use Rattle.race_laws.proofs.Opening.{splits}
-use Rattle.race_laws.proofs.Clear.{between_span, passing_span, key_gone, copy_fills}
+use Rattle.race_laws.proofs.Passes.{between_span, passing_span, key_gone}
+use Rattle.race_laws.proofs.Clear.{copy_fills}
 use Rattle.race_laws.proofs.Chain.{born_at, born_before, chain_table, chain_same, chain_before, way_down, further_born}
 use Rattle.race_laws.proofs.Homes.{parent_of}
 
@@ -86,8 +88,8 @@ in_order_between from (r ∷ rs) to h =
     (h.0, between_span r.at rs to rest, wider from r.at rs to h.0 rest)
   where
     wider : (a b : Past) (xs : List Reading) (to : Past) → Before a b → Between b xs to → Between a xs to
-    wider a b [] to h k = before_trans h k
-    wider a b (x ∷ xs) to h k = (before_trans h k.0, k.1, wider a b xs to h k.2)
+    wider a b [] to h k = Before-trans h k
+    wider a b (x ∷ xs) to h k = (Before-trans h k.0, k.1, wider a b xs to h k.2)
 
 pub in_order_passing : (s : Setting) (key : List ℕ) (own : Option ℕ) (from : Past) (prev : Option Searched) (t : ℕ) (since : Past) → Passing InOrder s key own from prev t since → Passing Between s key own from prev t since
 in_order_passing s key own from prev t since (begins u at b c f) = begins u at b c f
@@ -138,14 +140,14 @@ module _ (s : Setting) (key : List ℕ) (own : Option ℕ) (from to : Past) (lt 
     pub prev_ok : PrevOk prev t since
 
   span_to : (z y : Past) → Before z y → Before y to → Before z to
-  span_to z y a b = before_trans a b
+  span_to z y a b = Before-trans a b
 
   -- a table on the chain at one position is on it later, with the same birth depth
   chain_on : (y z : Past) (t : ℕ) → Before y z → Before z to → OnChain s.geometry y h t → OnChain s.geometry z h t
   chain_on y z t a b c = chain_before s a (legal_at z b) h t c
 
   born_same : (y z : Past) (t : ℕ) → Before y z → Before z to → OnChain s.geometry y h t → born_at s.geometry z t ≡ born_at s.geometry y t
-  born_same y z t a b c = born_before s a (legal_at z b) t (chain_table s y (legal_at y (before_trans a b)) h t c)
+  born_same y z t a b c = born_before s a (legal_at z b) t (chain_table s y (legal_at y (Before-trans a b)) h t c)
 
   -- where the word stands at a table's own position, its table is that one
   at_same : (z : Past) (t u : ℕ) → Before from z → Before z to → OnChain s.geometry z h t → At z u → born_at s.geometry z t ≡ born_at s.geometry z u → At z t
@@ -158,14 +160,14 @@ module _ (s : Setting) (key : List ℕ) (own : Option ℕ) (from to : Past) (lt 
   -- in the table itself the word is not shown moved away: the copy answers
   answers : (prev : Option Searched) (t : ℕ) (since z : Past) (b : Body) → Before from since → Before since z → Before z to → Here prev t since → At z t → place_in s.geometry z t p ≡ Full Copied b → place_in s.geometry z (parent_of s.geometry z t) p ≡ Full Moved b → IsTable s.geometry z t → Answers s prev p b
   answers None t since z b fs sz zt hr x w mo tb =
-      absurd (ripe_before s sz (legal_at z zt) t (chain_table s since (legal_at since (before_trans sz zt)) h t hr.on) hr.prev_ok (copy_fills s z (legal_at z zt) t p b tb tr.place w))
+      absurd (ripe_before s sz (legal_at z zt) t (chain_table s since (legal_at since (Before-trans sz zt)) h t hr.on) hr.prev_ok (copy_fills s z (legal_at z zt) t p b tb tr.place w))
   answers (Some q) t since z b fs sz zt hr x w mo tb = ⊎_elim (λ (y : own ≡ Some (slot_at q.table p)). absurd (own_case y)) (λ y. (y.0, y.1, y.2, read_case y.0 y.3 y.4 y.5 y.6)) hr.prev_ok.read
     where
       lz : Legal s z
       lz = legal_at z zt
 
       st : Before since to
-      st = before_trans sz zt
+      st = Before-trans sz zt
 
       ls : Legal s since
       ls = legal_at since st
@@ -187,14 +189,14 @@ module _ (s : Setting) (key : List ℕ) (own : Option ℕ) (from to : Past) (lt 
 
       own_case : own ≡ Some (slot_at q.table p) → ⊥
       own_case y =
-          let pend = tr.own_pending z (slot_at q.table p) (before_trans fs sz) zt y in
+          let pend = tr.own_pending z (slot_at q.table p) (Before-trans fs sz) zt y in
           let mv = ap (λ v. place_in s.geometry z v p) (sym parent_is) ∙ mo in
           let pd = pend.1 in
           cc
 
       read_case : (r : Reading) → Before from r.at → Before r.at since → OnChain s.geometry r.at h q.table → Below r.at q.table → place_in s.geometry r.at q.table p ≡ Full Moved b
       read_case r fr rs on below =
-          let rt = before_trans rs st in
+          let rt = Before-trans rs st in
           let lr = legal_at r.at rt in
           let u = tr.some r.at fr rt in
           let wd = way_down s r.at lr h q.table u.0 on (tr.chain r.at u.0 fr rt u.1) (below u.0 u.1) in
@@ -207,7 +209,7 @@ module _ (s : Setting) (key : List ℕ) (own : Option ℕ) (from to : Past) (lt 
           let ct : wd.0 ≡ t = sym chn ∙ ap (child_in s.geometry since q.table) lev ∙ ok.child in
           let on_t : OnChain s.geometry r.at h t = subst (OnChain s.geometry r.at h) ct wd.2 in
           let low : born_at s.geometry r.at t ≤ born_at s.geometry r.at u.0 = subst (λ v. born_at s.geometry r.at v ≤ born_at s.geometry r.at u.0) ct wd.3 in
-          let rz = before_trans rs sz in
+          let rz = Before-trans rs sz in
           let high = tr.down r.at z u.0 t fr rz zt u.1 x in
           let bt = born_same r.at z t rz zt on_t in
           let at_r = at_same r.at t u.0 fr rt on_t u.1 (omega arith) in
@@ -217,7 +219,7 @@ module _ (s : Setting) (key : List ℕ) (own : Option ℕ) (from to : Past) (lt 
 
   -- a miss at the place of the word, in its table, is none
   missed : (prev : Option Searched) (t : ℕ) (since : Past) (r : Reading) → Before from since → Before since r.at → Before r.at to → Here prev t since → r.place ≡ p → IsMiss s key own prev t r → At r.at t → ⊥
-  missed prev t since r fs sr rt hr e miss x = by (tr.shows r.at t (before_trans fs sr) rt x)
+  missed prev t since r fs sr rt hr e miss x = by (tr.shows r.at t (Before-trans fs sr) rt x)
     where
       at_place : (m : Mark) (b : Body) (q : Pair) → Word s.geometry r.at m t p b q → Word s.geometry r.at m t r.place b q
       at_place m b q w = subst (λ v. Word s.geometry r.at m t v b q) (sym e) w
@@ -225,34 +227,34 @@ module _ (s : Setting) (key : List ℕ) (own : Option ℕ) (from to : Past) (lt 
       by : Shows s key own r.at t p → ⊥
       by (live_word b q w k) = miss.live b q (at_place Live b q w) k
       by (copy_word b q w k mo) =
-          let tb = chain_table s r.at (legal_at r.at rt) h t (tr.chain r.at t (before_trans fs sr) rt x) in
+          let tb = chain_table s r.at (legal_at r.at rt) h t (tr.chain r.at t (Before-trans fs sr) rt x) in
           miss.copied b q (at_place Copied b q w) k (subst (λ v. Answers s prev v b) (sym e) (answers prev t since r.at b fs sr rt hr x w.stands mo tb))
       by (pending_word a o b q w k) = miss.pending a o b q (at_place Pending b q w) k
 
   -- where the place of a table was read, the word is strictly below from then on
   read_below : (prev : Option Searched) (t : ℕ) (since : Past) (r : Reading) → Before from since → Before since r.at → Before r.at to → Here prev t since → r.place ≡ p → IsMiss s key own prev t r → Below r.at t
   read_below prev t since r fs sr rt hr e miss u x =
-      let s0 = tr.some since fs (before_trans sr rt) in
+      let s0 = tr.some since fs (Before-trans sr rt) in
       let low = hr.upto s0.0 s0.1 in
       let d = tr.down since r.at s0.0 u fs sr rt s0.1 x in
       let bt = born_same since r.at t sr rt hr.on in
-      ⊎_elim (λ (q : born_at s.geometry r.at t ≡ born_at s.geometry r.at u). absurd (missed prev t since r fs sr rt hr e miss (at_same r.at t u (before_trans fs sr) rt (chain_on since r.at t sr rt hr.on) x q)))
+      ⊎_elim (λ (q : born_at s.geometry r.at t ≡ born_at s.geometry r.at u). absurd (missed prev t since r fs sr rt hr e miss (at_same r.at t u (Before-trans fs sr) rt (chain_on since r.at t sr rt hr.on) x q)))
       (λ (q : born_at s.geometry r.at t ≢ born_at s.geometry r.at u). omega arith) (same_or_not (born_at s.geometry r.at t) (born_at s.geometry r.at u))
 
   -- where the place of a table is the own slot, the word is strictly below all the time
   own_below : (prev : Option Searched) (t : ℕ) (since z : Past) → Before from since → Before since z → Before z to → Here prev t since → own ≡ Some (slot_at t p) → Below z t
   own_below prev t since z fs sz zt hr o u x =
-      let s0 = tr.some since fs (before_trans sz zt) in
+      let s0 = tr.some since fs (Before-trans sz zt) in
       let low = hr.upto s0.0 s0.1 in
       let d = tr.down since z s0.0 u fs sz zt s0.1 x in
       let bt = born_same since z t sz zt hr.on in
-      ⊎_elim (λ (q : born_at s.geometry z t ≡ born_at s.geometry z u). absurd (tr.not_own z t (slot_at t p) (before_trans fs sz) zt (at_same z t u (before_trans fs sz) zt (chain_on since z t sz zt hr.on) x q) o refl))
+      ⊎_elim (λ (q : born_at s.geometry z t ≡ born_at s.geometry z u). absurd (tr.not_own z t (slot_at t p) (Before-trans fs sz) zt (at_same z t u (Before-trans fs sz) zt (chain_on since z t sz zt hr.on) x q) o refl))
       (λ (q : born_at s.geometry z t ≢ born_at s.geometry z u). omega arith) (same_or_not (born_at s.geometry z t) (born_at s.geometry z u))
 
   -- strictly below later too
   below_later : (y z : Past) (t : ℕ) → Before from y → Before y z → Before z to → OnChain s.geometry y h t → Below y t → Below z t
   below_later y z t fy yz zt on b u x =
-      let s0 = tr.some y fy (before_trans yz zt) in
+      let s0 = tr.some y fy (Before-trans yz zt) in
       let l0 = b s0.0 s0.1 in
       let d = tr.down y z s0.0 u fy yz zt s0.1 x in
       let bt = born_same y z t yz zt on in
@@ -270,10 +272,10 @@ module _ (s : Setting) (key : List ℕ) (own : Option ℕ) (from to : Past) (lt 
       let among : IsIn p (read_places s key own t) = IsIn-filter (is_other own t) p (places s key) tr.candidate o in
       let r = reading_of p seen (subst (IsIn p) (sym m.whole) among) in
       let st = reading_stands since seen end m.stand r.0 r.1 in
-      let rt = before_trans st.1 et in
+      let rt = Before-trans st.1 et in
       let b = read_below prev t since r.0 fs st.0 rt hr r.2 (reading_misses s key own prev t seen m.miss r.0 r.1) in
       let on = chain_on since r.0.at t st.0 rt hr.on in
-      let fr = before_trans fs st.0 in
+      let fr = Before-trans fs st.0 in
       record { below = below_later r.0.at end t fr st.1 et on b; read = inr (r.0, r.1, r.2, fr, st.1, on, b) })
       (own_or_other own t p)
 
@@ -283,9 +285,9 @@ module _ (s : Setting) (key : List ℕ) (own : Option ℕ) (from to : Past) (lt 
   here_at prev t since (goes_on v u since2 end seen i c k m ex gone ch n) st =
       let se = between_span since2 seen end m.stand in
       let fs = passing_span Between between_span s key own from v u since2 k in
-      let hr = here_at v u since2 k (before_trans se st) in
+      let hr = here_at v u since2 k (Before-trans se st) in
       let dn = done v u since2 end seen fs se st hr m in
-      let fe = before_trans fs se in
+      let fe = Before-trans fs se in
       let on = chain_on since2 end u se st hr.on in
       let le = legal_at end st in
       let w0 = tr.some end fe st in
@@ -306,9 +308,9 @@ module _ (s : Setting) (key : List ℕ) (own : Option ℕ) (from to : Past) (lt 
   no_pass w =
       let se = between_span w.since w.seen w.end w.misses.stand in
       let fs = passing_span Between between_span s key own from w.prev w.table w.since w.passing in
-      let hr = here_at w.prev w.table w.since w.passing (before_trans se w.up_to) in
+      let hr = here_at w.prev w.table w.since w.passing (Before-trans se w.up_to) in
       let dn = done w.prev w.table w.since w.end w.seen fs se w.up_to hr w.misses in
-      let fe = before_trans fs se in
+      let fe = Before-trans fs se in
       let le = legal_at w.end w.up_to in
       let on = chain_on w.since w.end w.table se w.up_to hr.on in
       let u = tr.some w.end fe w.up_to in
