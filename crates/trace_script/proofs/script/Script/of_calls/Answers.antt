@@ -13,7 +13,7 @@ of_parts-requires c =
     let clients = subst (λ (plans : List Plan). Each (IsClient 16) [] (made_clients 0 plans)) c.as_slice.ensures c.in_ok-body.ensures.clients in
     subst (λ (content : Content). IsScript (record { version = 1; geometry = c.args.geometry; tries = c.args.tries; content = content })) (sym content)
     (made-is-script c.args.geometry c.args.tries c.args.plans.items c.args.items.items c.requires.depth c.requires.first c.requires.nodes c.requires.tries_least c.requires.tries_most c.requires.plans_least
-        c.requires.calls c.requires.items clients c.requires.short)
+    c.requires.calls c.requires.items clients c.requires.short)
 
 pub returns : goal.returns
 returns c =
