@@ -18,6 +18,7 @@ pub mod FoundHead
 pub mod Plain
 pub mod OfCalls
 pub mod OfCallsScript
+pub mod OfCallsText
 pub mod Again
 pub mod AgainLines
 pub mod AgainScript

@@ -102,7 +102,7 @@ pair-line word key value a b c =
     let wider = spelled-width value in
     omega (arith, line, wide, wider)
 
-abbrev IsShort : List (List ℕ) → Type 0
+abbrev pub IsShort : List (List ℕ) → Type 0
 IsShort words = length (line_of words) ≤ 4096
 
 call-line : (call : Call) → IsCall call → IsShort (call_words call)
@@ -191,18 +191,24 @@ without-lengths : (clients : ℕ) (lines : List (List Item)) → AllByRecursion 
 without-lengths clients [] h = tt
 without-lengths clients (line ∷ lines) h = (h.0.0, without-lengths clients lines h.1)
 
+-- each line of what is made is short
+pub made-lines : (g : Geometry) (tries : ℕ) (plans : List Plan) (items : List Item) → tries ≤ 64 → AllByRecursion (IsItem (length plans)) items → Each (IsClient 16) [] (made_clients 0 plans)
+    → AllByRecursion IsShort (script_words (made_script g tries plans items))
+made-lines g tries plans items most known clients =
+    let content = made_content plans items in
+    let lines = lines-made (length plans) (length items) items known in
+    let front = append_all IsShort (flat_map client_words content.clients) [] (client-lines [] content.clients clients) tt in
+    let behind = schedule-lines (names_of content) (length plans) (made_schedules items) (λ client. name-width [] content.clients client clients) lines in
+    (header-line, (table-line g tries most, append_all IsShort (content_words content) ((codes "end" ∷ []) ∷ []) (append_all IsShort _ _ front behind) (omega arith, tt)))
+
 -- what is made is a script
 pub made-is-script : (g : Geometry) (tries : ℕ) (plans : List Plan) (items : List Item) → g.max_depth ≤ 12 → g.first_depth ≡ 0 → g.nodes ≡ 1 → 1 ≤ tries → tries ≤ 64 → 1 ≤ length plans
     → planned_calls plans ≤ 65536 → AllByRecursion (IsItem (length plans)) items → Each (IsClient 16) [] (made_clients 0 plans)
     → length (text_of_script (made_script g tries plans items)) ≤ 4194304 → IsScript (made_script g tries plans items)
 made-is-script g tries plans items deep first nodes least most some calls known clients short =
-    let content = made_content plans items in
     let long = length-made 0 plans in
     let lines = lines-made (length plans) (length items) items known in
     let within = subst (λ n. AllByRecursion (IsSchedule n) (made_schedules items)) (sym long) (without-lengths (length plans) (made_schedules items) lines) in
-    let names = names_of content in
-    let front = append_all IsShort (flat_map client_words content.clients) [] (client-lines [] content.clients clients) tt in
-    let behind = schedule-lines names (length plans) (made_schedules items) (λ client. name-width [] content.clients client clients) lines in
     record {
       version_least = omega arith;
       version_most = omega arith;
@@ -211,7 +217,7 @@ made-is-script g tries plans items deep first nodes least most some calls known 
       nodes = λ _. nodes;
       content = record { hashes = tt; clients = clients; calls = subst (λ n. n ≤ 65536) (sym (made-calls 0 plans)) calls; stops = tt; schedules = within };
       some = omega (arith, long, some);
-      short_lines = (header-line, (table-line g tries most, append_all IsShort (content_words content) ((codes "end" ∷ []) ∷ []) (append_all IsShort _ _ front behind) (omega arith, tt)));
+      short_lines = made-lines g tries plans items most known clients;
       short = short;
     }
 
