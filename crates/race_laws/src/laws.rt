@@ -1,52 +1,44 @@
-//! The seven laws of legal logs. Each function has an empty body, and its contract is the law.
+//! The seven laws of legal logs. Each function has an empty body, and its contract is the law, of every legal log over a
+//! checked geometry and hashes that never change. docs/LAWS.md has the idea of each proof.
 ghost use Rattle.race_laws.specs.Laws.{OneHolder, HolderPlace, Finality, ClearPlaces, CommitLaw, Absence, Presence};
 
-/// One holder: a key has at most one holder, it has one exactly where the map of all changes has the key, and the value is
-/// the holder's block's.
-/// In a legal log a key has at most one holder at each position, it has one exactly where the map of the changes so far has
-/// the key, and the map's value is that of the holder's block.
+/// One holder: at each position a key has at most one holder, it has one exactly where the map of the changes so far has the
+/// key, and the map's value is that of the holder's block.
 pub fn law_one_holder()
     ensures { OneHolder }
 {}
 
-/// The holder's place: while the map has the key, its holder keeps its slot, or goes at a Flip to the same place of the child.
-/// While the map has a key, its holder keeps its slot, or goes at a Flip to the same place of the child table.
+/// The holder's place: while the map has a key, its holder keeps its slot, or goes at a Flip to the same place of the child
+/// table.
 pub fn law_holder_place()
     ensures { HolderPlace }
 {}
 
 /// Finality: a key that has left a table has left it at each later position, and a table that is not filling never fills
 /// again; the same of each bucket header.
-/// A key that has left a table has left it at each later position, and a table that does not fill never fills again; the
-/// same of each bucket header.
 pub fn law_finality()
     ensures { Finality }
 {}
 
-/// Clear places: after a clear position a place never again has a live or moved word of a leaving key.
-/// After a position at which a place was clear it never again has a live or moved word of a key that leaves its table.
+/// Clear places: after a position at which a place was clear it never again has a live or moved word of a key that leaves
+/// its table.
 pub fn law_clear_places()
     ensures { ClearPlaces }
 {}
 
-/// Commit: at a legal Commit the map has no such key.
-/// At a Commit the map has no such key.
+/// Commit: at a Commit the map has no such key.
 pub fn law_commit()
     ensures { CommitLaw }
 {}
 
 /// Absence: where a key was looked for between two positions and not found, the map lacks it at some position between them,
 /// in whatever order the slots of each table were read.
-/// Where a key was looked for between two positions and not found, the map lacks it at some position between them, in
-/// whatever order the slots of each table were read.
 pub fn law_absence()
     ensures { Absence }
 {}
 
 /// Presence: a live word of a key in a candidate slot of a table on its chain is the key's holder, and so is a copy in the
 /// child after a position at which the same place of the parent was moved of its block.
-/// A live word of a key in a candidate slot of a table on its chain is the key's holder, and so is a copy that stands in the
-/// child after a position at which the parent's place was moved of its block.
 pub fn law_presence()
     ensures { Presence }
 {}
