@@ -1,0 +1,86 @@
+use super::{HEAD_1, HEAD_2, Refused, joined, refusal};
+use crate::ScriptKind::{Client, End, TooLong, Word};
+use std::alloc::{AllocError, Global};
+use std::test::Fail;
+
+/// So many `client` lines behind a head.
+fn with_clients(alloc: Global, head: &str, count: u32) -> Result<String, AllocError> {
+    let mut text = String::from_str(alloc, head)?;
+    for number in 0..count {
+        write!(text, "client c{number}\n")?;
+    }
+    Ok(text)
+}
+
+/// There are at most 16 clients in a `race 1` script, and 64 in a `race 2` script.
+#[test]
+fn most_clients(rt: HostRuntime) -> Result<(), Fail> {
+    for (head, count, back, refused) in [
+        (HEAD_1, 16, "end\n", None),
+        (HEAD_1, 17, "end\n", Some((19, Client))),
+        (HEAD_1, 17, "find\n", Some((19, Client))),
+        (HEAD_1, 16, "client a b\n", Some((19, Word))),
+        (HEAD_2, 17, "end\n", None),
+        (HEAD_2, 64, "end\n", None),
+        (HEAD_2, 65, "end\n", Some((67, Client))),
+    ] {
+        let clients = with_clients(rt.alloc(), head, count)?;
+        let text = joined(rt.alloc(), clients.as_str(), back, "")?;
+        assert_eq!(rt;
+            refusal(rt.alloc(), text.as_str())?,
+            refused,
+            "{count}{back}"
+        );
+    }
+    Ok(())
+}
+
+/// What stands behind 65,536 call lines of one client, the last of which is line 65,539.
+const BEHIND_CALLS: &[(&str, Option<Refused>)] = &[
+    ("end\n", None),
+    ("client b\nend\n", None),
+    ("search k\nend\n", Some((65540, TooLong))),
+    ("client b\ndelete k\n", Some((65541, TooLong))),
+    ("insert % %0\n", Some((65540, TooLong))),
+    ("search k", Some((65540, End))),
+    ("search  k\n", Some((65540, Word))),
+    ("search k 1\n", Some((65540, Word))),
+];
+
+/// There are at most 65,536 call lines.
+#[test]
+fn most_calls(rt: HostRuntime) -> Result<(), Fail> {
+    let calls = "search k\n".repeat(rt.alloc(), 65536)?;
+    let front = joined(rt.alloc(), HEAD_1, "client a\n", calls.as_str())?;
+    for (back, refused) in BEHIND_CALLS {
+        let text = joined(rt.alloc(), front.as_str(), back, "")?;
+        assert_eq!(rt; refusal(rt.alloc(), text.as_str())?, *refused, "{back}");
+    }
+    Ok(())
+}
+
+/// What stands behind 4,194,300 bytes of a head, a client and schedule lines, the last of which is line 1,027.
+const BEHIND_SCHEDULE: &[(&str, Option<Refused>)] = &[
+    ("end\n", None),
+    ("end\n\n", Some((0, TooLong))),
+    ("end\0\n", Some((0, TooLong))),
+    ("a b\n", Some((1028, Word))),
+    ("enda", Some((1028, End))),
+];
+
+/// There are at most 4,194,304 bytes.
+#[test]
+fn most_bytes(rt: HostRuntime) -> Result<(), Fail> {
+    let items = " a".repeat(rt.alloc(), 2044)?;
+    let line = joined(rt.alloc(), "schedule", items.as_str(), "\n")?;
+    let lines = line.as_str().repeat(rt.alloc(), 1023)?;
+    let last = joined(rt.alloc(), "schedule a!", &items.as_str()[..3000], "\n")?;
+    let front = joined(rt.alloc(), HEAD_1, "client a\n", lines.as_str())?;
+    let front = joined(rt.alloc(), front.as_str(), last.as_str(), "")?;
+    assert_eq!(rt; front.len(), 4_194_300);
+    for (back, refused) in BEHIND_SCHEDULE {
+        let text = joined(rt.alloc(), front.as_str(), back, "")?;
+        assert_eq!(rt; refusal(rt.alloc(), text.as_str())?, *refused, "{back}");
+    }
+    Ok(())
+}
