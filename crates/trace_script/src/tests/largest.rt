@@ -59,24 +59,30 @@ fn most_calls(rt: HostRuntime) -> Result<(), Fail> {
     Ok(())
 }
 
-/// What stands behind 4,194,300 bytes of a head, a client and schedule lines, the last of which is line 1,027.
+/// What stands behind 4,194,300 bytes of a head, a client and schedule lines, the last of which is line 1,030.
 const BEHIND_SCHEDULE: &[(&str, Option<Refused>)] = &[
     ("end\n", None),
     ("end\n\n", Some((0, TooLong))),
     ("end\0\n", Some((0, TooLong))),
-    ("a b\n", Some((1028, Word))),
-    ("enda", Some((1028, End))),
+    ("a b\n", Some((1031, Word))),
 ];
+
+/// A head, a client and schedule lines of 4,194,300 bytes.
+fn with_schedule(alloc: Global) -> Result<String, AllocError> {
+    let item = " abcdefghijklmnop*1000000";
+    let line = joined(alloc, "schedule", item.repeat(alloc, 163)?.as_str(), "\n")?;
+    let lines = line.as_str().repeat(alloc, 1026)?;
+    let front = joined(alloc, HEAD_1, "client abcdefghijklmnop\n", lines.as_str())?;
+    let items = item.repeat(alloc, 160)?;
+    let last = "schedule abcdefghijklmnop abcdefghijklmnop!";
+    let last = joined(alloc, last, items.as_str(), "\n")?;
+    joined(alloc, front.as_str(), last.as_str(), "")
+}
 
 /// There are at most 4,194,304 bytes.
 #[test]
 fn most_bytes(rt: HostRuntime) -> Result<(), Fail> {
-    let items = " a".repeat(rt.alloc(), 2044)?;
-    let line = joined(rt.alloc(), "schedule", items.as_str(), "\n")?;
-    let lines = line.as_str().repeat(rt.alloc(), 1023)?;
-    let last = joined(rt.alloc(), "schedule a!", &items.as_str()[..3000], "\n")?;
-    let front = joined(rt.alloc(), HEAD_1, "client a\n", lines.as_str())?;
-    let front = joined(rt.alloc(), front.as_str(), last.as_str(), "")?;
+    let front = with_schedule(rt.alloc())?;
     assert_eq!(rt; front.len(), 4_194_300);
     for (back, refused) in BEHIND_SCHEDULE {
         let text = joined(rt.alloc(), front.as_str(), back, "")?;

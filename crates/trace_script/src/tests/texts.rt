@@ -1,7 +1,8 @@
 use super::{HEAD_1, HEAD_2, joined};
-use crate::{Lines, Mode, read_script, reply_text, report_text, script_text};
+use crate::{Lines, Mode, Text, read_script, reply_text, report_text, script_text};
 use kv_block::Value;
 use map_model::{MapMachine, Nexts, Reply};
+use std::alloc::{AllocError, Global};
 use std::test::Fail;
 
 /// Lines behind line 2 that are taken.
@@ -51,35 +52,43 @@ fn replies(rt: HostRuntime) -> Result<(), Fail> {
     Ok(())
 }
 
+/// The text of the script that a text spells, or None where it spells none.
+fn written(alloc: Global, text: &str) -> Result<Option<Text>, AllocError> {
+    let Ok(script) = read_script(alloc, text.as_bytes()) else {
+        return Ok(None);
+    };
+    Ok(Some(script_text(alloc, &script)?))
+}
+
 /// Scripts of both versions are read, and written again as they were.
 #[test]
 fn scripts(rt: HostRuntime) -> Result<(), Fail> {
     for head in [HEAD_1, HEAD_2] {
         for lines in TAKEN {
             let text = joined(rt.alloc(), head, lines, "")?;
-            let script = read_script(rt.alloc(), text.as_bytes())?;
-            let written = script_text(rt.alloc(), &script)?;
-            assert_eq!(rt; written.as_slice(), text.as_bytes(), "{text}");
+            let again = written(rt.alloc(), text.as_str())?.ok_or("a script")?;
+            assert_eq!(rt; again.as_slice(), text.as_bytes(), "{text}");
         }
     }
     Ok(())
 }
 
-/// The report of a script without calls.
+/// The report of a script without calls, or None where the text spells no script.
+fn empty_report(alloc: Global, text: &str) -> Result<Option<Text>, AllocError> {
+    let Ok(script) = read_script(alloc, text.as_bytes()) else {
+        return Ok(None);
+    };
+    let lines = Lines::new(alloc);
+    let map = MapMachine::new(alloc);
+    let report = report_text(alloc, Mode::Replay, &script, &lines, &map, Nexts::one(47))?;
+    Ok(Some(report))
+}
+
+/// The report of a script without calls has a first and a last line.
 #[test]
 fn report(rt: HostRuntime) -> Result<(), Fail> {
     let text = joined(rt.alloc(), HEAD_1, TAKEN[0], "")?;
-    let script = read_script(rt.alloc(), text.as_bytes())?;
-    let lines = Lines::new(rt.alloc());
-    let map = MapMachine::new(rt.alloc());
-    let report = report_text(
-        rt.alloc(),
-        Mode::Replay,
-        &script,
-        &lines,
-        &map,
-        Nexts::one(47),
-    )?;
+    let report = empty_report(rt.alloc(), text.as_str())?.ok_or("a script")?;
     let wanted = "race 1 replay\nend calls=0 open=0 changes=0 next=47\n";
     assert_eq!(rt; report.as_slice(), wanted.as_bytes());
     Ok(())
