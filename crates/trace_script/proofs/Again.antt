@@ -1,15 +1,13 @@
 -- What is spelled is read again, line by line.
-use Rattle.std.proofs.Common.{◌≡◌, ℕ, ◌+◌, ◌-◌, ◌<◌, ◌≤◌, ◌^◌, zero, suc, Bool, true, false, not, ◌&&◌, nat_eq, nat_lt, nat_le, ◌==◌, List, [], ◌∷◌, ◌++◌, length, map, position, slice_index_or, Option, Some, None, is_some, is_none, Result, Ok, Err, codes, refl, sym, ap, subst, ◌∙◌, arith, append_assoc, append-nil, if◌then◌else◌}
-use Rattle.std.proofs.lemmas.Bool.{cond-true, cond-false, and_parts, and_from, or_left, or_right, not_from_false, lt-ltb, le-leb, eqb-true, ne_eqb, eqb-false, true≢false}
+use Rattle.std.proofs.Common.{◌≡◌, ℕ, ◌+◌, ◌<◌, ◌≤◌, ◌^◌, zero, suc, Bool, true, false, ◌&&◌, nat_eq, nat_le, List, [], ◌∷◌, ◌++◌, length, map, slice_index_or, Some, None, is_some, is_none, Result, Ok, Err, refl, sym, ap, ◌∙◌, arith, append_assoc, append-nil, if◌then◌else◌}
+use Rattle.std.proofs.lemmas.Bool.{cond-true, cond-false, and_parts, and_from, or_left, lt-ltb, le-leb, eqb-true, eqb-false}
 use Rattle.std.proofs.lemmas.List.{map-append, length_push}
-use Rattle.std.proofs.lemmas.List.Elements.{recursion_from_All}
 use Rattle.std.proofs.lemmas.Iterator.Adapters.{position_from-zero}
 use Rattle.std.specs.List.{AllByRecursion, list_all, position_from}
 use Rattle.std.specs.Option.{option_and_then}
 use Rattle.std.specs.Fmt.{decimal}
 use Rattle.std.specs.Cmp.Lexicographic.{nat_list_eq_equiv}
-use Rattle.std.specs.Map.{lookup}
-use Rattle.kv_block.specs.Bytes.{key_eq, AreBytes}
+use Rattle.kv_block.specs.Bytes.{key_eq}
 use Rattle.key_hash.specs.Placing.{is_listed}
 use Rattle.map_model.specs.declared.calls.Call.{Call}
 use Rattle.map_model.specs.declared.plans.Item.{Item}
@@ -17,10 +15,10 @@ use Rattle.map_model.specs.declared.plans.Item.TheVariants as item
 use Rattle.trace_script.specs.declared.fault.ScriptKind.{ScriptKind}
 use Rattle.trace_script.specs.declared.fault.ScriptKind.TheVariants as kind
 use Rattle.trace_script.specs.Spelling.{spelled, hex_number, is_within, is_small, is_digit, is_name_byte}
-use Rattle.trace_script.specs.Words.{number_of, key_of, value_of, hex_number_of, is_name}
-use Rattle.trace_script.specs.Content.{Content, names_of, client_at, stop_at, with_hash, with_client, with_stop, with_schedule}
+use Rattle.trace_script.specs.Words.{value_of, hex_number_of, is_name}
+use Rattle.trace_script.specs.Content.{Content, names_of, stop_at, with_hash, with_client, with_stop, with_schedule}
 use Rattle.trace_script.specs.ScriptText.{name_at, item_word}
-use Rattle.trace_script.specs.Rules.{◌>>=◌, or_else, is_empty, hash_step, client_step, client_of, number_within, stop_step, item_name, item_rest, item_with, item_of, item_first, items_of, schedule_step, call_key, call_pair}
+use Rattle.trace_script.specs.Rules.{◌>>=◌, or_else, hash_step, client_step, client_of, number_within, stop_step, item_name, item_rest, item_with, item_of, item_first, items_of, schedule_step, call_key, call_pair}
 use Rattle.trace_script.specs.Valid.{Each, IsKey, IsValue, IsHash, IsClient, IsStop, IsItem, IsSchedule}
 use Rattle.trace_script.proofs.Spelled.{key_of-spelled, value_of-spelled, hex_number_of-hex_number, number_of-decimal}
 

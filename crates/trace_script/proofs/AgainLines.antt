@@ -1,11 +1,10 @@
 -- The lines of a script are read again, one after the other.
-use Rattle.std.proofs.Common.{◌≡◌, ℕ, ◌+◌, ◌<◌, ◌≤◌, ◌^◌, Bool, true, false, not, ◌&&◌, nat_eq, nat_lt, List, [], ◌∷◌, ◌++◌, length, map, Option, Some, None, Result, Ok, Err, codes, refl, sym, ap, subst, ◌∙◌, arith, append_assoc, append-nil, if◌then◌else◌}
+use Rattle.std.proofs.Common.{◌≡◌, ℕ, ◌+◌, ◌<◌, ◌≤◌, Bool, true, false, not, ◌&&◌, nat_eq, List, [], ◌∷◌, ◌++◌, length, map, Option, Some, None, Result, Ok, codes, refl, sym, ap, subst, ◌∙◌, arith, append_assoc, append-nil, if◌then◌else◌}
 use Rattle.std.proofs.lemmas.Bool.{cond-true, cond-false, and_from, not_from_false, le-ltb, true≢false}
-use Rattle.std.proofs.lemmas.List.{map-append, length-append}
+use Rattle.std.proofs.lemmas.List.{map-append}
 use Rattle.std.proofs.lemmas.List.Elements.{recursion_from_All}
 use Rattle.std.specs.List.{AllByRecursion, list_all, flat_map}
 use Rattle.std.specs.Fmt.{decimal}
-use Rattle.kv_block.specs.Bytes.{AreBytes}
 use Rattle.map_model.specs.declared.calls.Call.{Call}
 use Rattle.map_model.specs.declared.calls.Call.TheVariants.{Insert, Search, Update, Delete, Resize}
 use Rattle.map_model.specs.declared.plans.Item.{Item}
@@ -13,12 +12,10 @@ use Rattle.map_model.specs.declared.plans.Item.TheVariants as item
 use Rattle.trace_script.specs.declared.fault.ScriptKind.{ScriptKind}
 use Rattle.trace_script.specs.declared.fault.ScriptKind.TheVariants as kind
 use Rattle.trace_script.specs.Spelling.{spelled, hex_number}
-use Rattle.trace_script.specs.Words.{parts_at}
 use Rattle.trace_script.specs.Content.{Content, names_of, called, no_content}
-use Rattle.trace_script.specs.ScriptText.{hash_words, client_words, call_words, stop_words, schedule_words, content_words, item_word, name_at, line_of}
-use Rattle.trace_script.specs.Rules.{◌>>=◌, Reading, Refusal, is_empty, is_printable, misplaced, content_step, going_on, after_call, insert_step, search_step, update_step, delete_step, resize_step, stop_step, schedule_step, unless_fault, words_step, line_step, goes_on, ending, read_lines}
-use Rattle.trace_script.specs.Valid.{Each, IsKey, IsValue, IsCall, IsHash, IsClient, IsStop, IsItem, IsSchedule, call_count, IsContent}
-use Rattle.trace_script.proofs.FoundScript.{end_words}
+use Rattle.trace_script.specs.ScriptText.{hash_words, client_words, call_words, stop_words, schedule_words, item_word, name_at, line_of}
+use Rattle.trace_script.specs.Rules.{◌>>=◌, Reading, is_empty, content_step, going_on, after_call, insert_step, search_step, update_step, delete_step, resize_step, stop_step, schedule_step, unless_fault, words_step, line_step, goes_on, read_lines}
+use Rattle.trace_script.specs.Valid.{Each, IsKey, IsValue, IsCall, IsHash, IsClient, IsStop, IsItem, IsSchedule, call_count}
 use Rattle.trace_script.proofs.Plain.{IsWord, is_word_byte, IsWord-decimal, IsWord-name, IsWord-spelled, IsWord-hex_number, IsWord-append, parts-line, line_printable}
 use Rattle.trace_script.proofs.Again.{hash-again, client-again, key-again, pair-again, stop-again, schedule-again, name-again}
 

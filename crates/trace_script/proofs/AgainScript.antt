@@ -1,11 +1,10 @@
 -- The text of a script is read as that script.
-use Rattle.std.proofs.Common.{◌≡◌, ℕ, ◌+◌, ◌%◌, ◌<◌, ◌≤◌, ◌^◌, Bool, true, false, not, ◌&&◌, ◌||◌, ◌==◌, nat_eq, nat_lt, nat_le, List, [], ◌∷◌, ◌++◌, length, map, Option, Some, None, is_none, Result, Ok, Err, codes, refl, sym, ap, subst, ◌∙◌, arith, append_assoc, append-nil, if◌then◌else◌, inl, inr}
-use Rattle.std.proofs.lemmas.Bool.{cond-true, cond-false, and_parts, and_from, leb-true, le-ltb, ltb-false, eqb-true, eqb-false, eq-eqb, ne_eqb, cases_eq, true≢false}
+use Rattle.std.proofs.Common.{◌≡◌, ℕ, ◌+◌, ◌%◌, ◌<◌, ◌≤◌, ◌^◌, Bool, true, false, not, ◌||◌, ◌==◌, nat_eq, nat_lt, List, [], ◌∷◌, ◌++◌, length, map, Option, Some, None, is_none, Result, Ok, Err, codes, refl, sym, ap, subst, ◌∙◌, arith, append_assoc, if◌then◌else◌, inl, inr}
+use Rattle.std.proofs.lemmas.Bool.{cond-true, cond-false, and_parts, leb-true, le-ltb, ltb-false, cases_eq, true≢false}
 use Rattle.std.proofs.lemmas.List.{map-append}
 use Rattle.std.proofs.lemmas.Fmt.{decimal_digit}
-use Rattle.std.specs.List.{AllByRecursion, list_all, flat_map}
+use Rattle.std.specs.List.{AllByRecursion, flat_map}
 use Rattle.std.specs.Fmt.{decimal}
-use Rattle.kv_block.specs.Bytes.{key_eq}
 use Rattle.map_model.specs.declared.calls.Call.{Call}
 use Rattle.map_model.specs.declared.calls.Call.TheVariants.{Insert, Search, Update, Delete, Resize}
 use Rattle.map_model.specs.declared.plans.Item.{Item}
@@ -15,22 +14,21 @@ use Rattle.node_words.specs.declared.geometry.GeometryFault.{GeometryFault}
 use Rattle.node_words.specs.declared.geometry.GeometryFault.TheVariants.{GroupsBad, DepthBad, NodesBad, WordsFew, WordsMany}
 use Rattle.trace_script.specs.declared.fault.ScriptKind.{ScriptKind}
 use Rattle.trace_script.specs.declared.fault.ScriptKind.TheVariants as kind
-use Rattle.trace_script.specs.Spelling.{is_within}
-use Rattle.trace_script.specs.Words.{parts_at, number_of}
+use Rattle.trace_script.specs.Words.{number_of}
 use Rattle.trace_script.specs.Content.{Content, ScriptValue, Sizes, sizes_of, no_content}
-use Rattle.trace_script.specs.ScriptText.{header_words, table_words, call_words, hash_words, client_words, stop_words, schedule_words, content_words, line_of, text_of, script_words, text_of_script}
+use Rattle.trace_script.specs.ScriptText.{header_words, table_words, call_words, hash_words, client_words, stop_words, schedule_words, content_words, line_of, script_words, text_of_script}
 use Rattle.trace_script.specs.Gives.{told_of, Reads}
 use Rattle.node_words.proofs.GeometryNumbers.{same_geometry}
 use Rattle.trace_script.specs.declared.fault.ScriptFault.{ScriptFault}
 use Rattle.trace_script.specs.declared.fault.ScriptFault.TheVariants as fault
 use Rattle.trace_script.proofs.Each.{ok_same, err_ok}
-use Rattle.trace_script.specs.Rules.{◌>>=◌, or_else, Reading, Refusal, is_empty, misplaced, unless_fault, words_step, line_step, goes_on, ending, read_lines, next_line, on_line, version_of, SizeWords, size_words, sizes_told, are_sizes, most_depth, most_clients, table_of, version_line, table_line, Head, head_of, Told, script_of}
+use Rattle.trace_script.specs.Rules.{◌>>=◌, or_else, Reading, Refusal, is_empty, unless_fault, words_step, goes_on, read_lines, next_line, on_line, version_of, SizeWords, size_words, sizes_told, are_sizes, most_depth, most_clients, table_of, version_line, table_line, Head, head_of, Told, script_of}
 use Rattle.trace_script.specs.Valid.{Each, IsCall, IsHash, IsClient, IsStop, IsSchedule, IsContent, IsScript, call_count}
 use Rattle.trace_script.proofs.Spelled.{number_of-decimal}
 use Rattle.trace_script.proofs.FoundScript.{end_words}
 use Rattle.trace_script.proofs.Plain.{IsWord, IsWord-name, IsWord-hex_number, IsWord-decimal, IsWord-append, parts-line, parts-text}
 use Rattle.trace_script.proofs.Again.{name-again}
-use Rattle.trace_script.proofs.AgainLines.{key_word, value_word, item-words, Leads, leads-more, line-taken, word_of, reading, AreShort, some_append, parts_of, hashes-again, clients-again, stops-again, schedules-again}
+use Rattle.trace_script.proofs.AgainLines.{key_word, value_word, item-words, leads-more, line-taken, word_of, reading, AreShort, parts_of, hashes-again, clients-again, stops-again, schedules-again}
 
 -- `end` ends the script
 end-again : (most n : ℕ) (r : Reading) → is_empty r.content.clients ≡ false → read_lines most n r (line_of end_words ∷ [] ∷ []) ≡ Ok r.content

@@ -4,7 +4,7 @@ use Rattle.std.proofs.Common.{drop-cons, take_all, take-append-drop, length-drop
 use Rattle.std.proofs.lemmas.List.{take_more}
 use Rattle.std.proofs.lemmas.List.Elements.{All-push}
 use Rattle.std.proofs.lemmas.List.Splits.{slice_split_at, slice_split_none, slice_split-cons_yes, slice_split-cons_no}
-use Rattle.std.specs.List.{All, slice_split, onto_first}
+use Rattle.std.specs.List.{All, onto_first}
 use Rattle.trace_script.specs.Words.{parts_at, one_of, two_of}
 use Rattle.trace_script.specs.Rules.{is_empty}
 

@@ -1,5 +1,5 @@
 -- Lists of which each item agrees with those before it.
-use Rattle.std.proofs.Common.{◌≡◌, ℕ, Bool, true, false, List, [], ◌∷◌, ◌++◌, Option, Some, None, Result, Ok, Err, refl, sym, ap, subst, ◌∙◌, append_assoc, append-nil, if◌then◌else◌}
+use Rattle.std.proofs.Common.{◌≡◌, Bool, true, false, List, [], ◌∷◌, ◌++◌, Option, Some, None, Result, Ok, Err, refl, sym, ap, subst, append_assoc, append-nil, if◌then◌else◌}
 use Rattle.trace_script.specs.Valid.{Each}
 use Rattle.trace_script.specs.declared.fault.ScriptKind.{ScriptKind}
 use Rattle.trace_script.specs.Rules.{◌>>=◌, or_else, is_empty}

@@ -1,34 +1,29 @@
 -- What is read is spelled so: each line that is taken is the text of what it adds.
-use Rattle.std.proofs.Common.{◌≡◌, ℕ, ◌+◌, ◌<◌, ◌≤◌, ◌^◌, Bool, true, false, not, ◌&&◌, nat_eq, nat_lt, nat_le, List, [], ◌∷◌, ◌++◌, length, map, position, Option, Some, None, is_some, is_none, Result, Ok, Err, codes, refl, sym, ap, subst, ◌∙◌, arith, append_assoc, append-nil, IsTrue, get_or, suc, sum_by, if◌then◌else◌}
-use Rattle.std.proofs.lemmas.List.{map-append}
-use Rattle.std.proofs.lemmas.List.Concat.{flat_map-append}
+use Rattle.std.proofs.Common.{◌≡◌, ℕ, ◌<◌, ◌≤◌, Bool, true, false, ◌&&◌, nat_eq, nat_lt, List, [], ◌∷◌, ◌++◌, length, map, Option, Some, None, is_some, is_none, Ok, codes, refl, sym, ap, subst, ◌∙◌, arith, append-nil, get_or, suc, if◌then◌else◌}
 use Rattle.std.proofs.lemmas.Bool.{and_parts, leb-true, ltb-true, true≢false, cond-true, cond-false, eqb-true, ne_eqb}
-use Rattle.std.specs.List.{flat_map, AllByRecursion}
-use Rattle.std.specs.Map.{lookup}
+use Rattle.std.specs.List.{AllByRecursion}
 use Rattle.std.specs.Fmt.{decimal}
 use Rattle.std.specs.Cmp.Lexicographic.{same_text}
 use Rattle.kv_block.specs.Bytes.{key_eq}
 use Rattle.key_hash.specs.Placing.{is_listed}
 use Rattle.map_model.specs.declared.calls.Call.{Call}
-use Rattle.map_model.specs.declared.calls.Call.TheVariants.{Insert, Search, Update, Delete, Resize}
 use Rattle.map_model.specs.declared.plans.Item.{Item}
-use Rattle.trace_script.specs.declared.fault.ScriptKind.{ScriptKind}
 use Rattle.trace_script.specs.declared.fault.ScriptKind.TheVariants as kind
 use Rattle.trace_script.specs.declared.command.Command.{Command}
 use Rattle.trace_script.specs.declared.command.Command.TheVariants as command
 use Rattle.trace_script.specs.Spelling.{spelled, hex_number, is_within, is_name_byte}
 use Rattle.trace_script.specs.Words.{number_of, one_of, two_of, key_of, value_of, hex_number_of, is_name}
-use Rattle.trace_script.specs.Content.{Content, names_of, client_at, stop_at, with_hash, with_client, with_call, with_stop, with_schedule, called}
-use Rattle.trace_script.specs.ScriptText.{name_at, item_word, hash_words, client_words, call_words, stop_words, schedule_words, content_words}
-use Rattle.trace_script.specs.Rules.{◌>>=◌, or_else, is_empty, command_of, hash_step, client_step, call_key, call_pair, client_of, number_within, stop_step, item_name, item_rest, item_with, item_of, item_first, items_of, schedule_step}
-use Rattle.trace_script.specs.Valid.{Each, IsKey, IsValue, IsCall, IsHash, IsClient, IsStop, IsItem, IsSchedule, call_count}
+use Rattle.trace_script.specs.Content.{Content, names_of, client_at, stop_at, with_hash, with_client, with_stop, with_schedule}
+use Rattle.trace_script.specs.ScriptText.{name_at, item_word}
+use Rattle.trace_script.specs.Rules.{or_else, is_empty, command_of, hash_step, client_step, call_key, call_pair, client_of, number_within, stop_step, item_name, item_rest, item_with, item_of, item_first, items_of, schedule_step}
+use Rattle.trace_script.specs.Valid.{IsKey, IsValue, IsHash, IsClient, IsStop, IsItem, IsSchedule}
 use Rattle.trace_script.proofs.Spelled.{spelled-key_of, spelled-value_of, hex_number-hex_number_of, decimal-number_of}
 use Rattle.map_model.specs.declared.plans.Item.TheVariants as item
 use Rattle.std.proofs.lemmas.Option.{cond_some, option_and_then_some, same_Some}
 use Rattle.std.proofs.lemmas.List.Quantifiers.{position-Some}
 use Rattle.std.specs.Option.{option_and_then}
 use Rattle.trace_script.proofs.Entries.{none-from}
-use Rattle.trace_script.proofs.Each.{Each-push, ok_bind, ok_same, ok_or_else, ok_unless, ok_if, err_ok, nothing}
+use Rattle.trace_script.proofs.Each.{ok_bind, ok_same, ok_or_else, ok_unless, ok_if, nothing}
 
 -- the words that are there
 one-found : (ws : List (List ℕ)) (w : List ℕ) → one_of ws ≡ Some w → ws ≡ w ∷ []

@@ -1,11 +1,10 @@
 -- The first two lines that are read, and the whole script.
-use Rattle.std.proofs.Common.{◌≡◌, ℕ, ◌+◌, ◌<◌, ◌≤◌, ◌^◌, Bool, true, false, not, ◌&&◌, nat_eq, ◌==◌, nat_lt, List, [], ◌∷◌, ◌++◌, length, map, Option, Some, None, Result, Ok, Err, codes, refl, sym, ap, subst, ◌∙◌, arith, append_assoc, append-nil, if◌then◌else◌, inl, inr, ◌⊎◌}
+use Rattle.std.proofs.Common.{◌≡◌, ℕ, ◌<◌, ◌≤◌, ◌^◌, Bool, true, false, nat_eq, ◌==◌, nat_lt, List, [], ◌∷◌, ◌++◌, length, Some, None, Result, Ok, Err, codes, refl, sym, ap, subst, ◌∙◌, arith, append_assoc, if◌then◌else◌}
 use Rattle.std.proofs.lemmas.Bool.{cond-true, cond-false, true≢false, ltb-false, eqb-true, eqb-false}
 use Rattle.std.proofs.lemmas.Option.{same_Some, option_and_then_some}
 use Rattle.std.proofs.lemmas.Fmt.{decimal_digit, decimal_injective}
 use Rattle.std.proofs.lemmas.List.Splits.{join_with_byte-slice_split}
-use Rattle.std.specs.List.{flat_map, AllByRecursion, join_with_byte}
-use Rattle.std.specs.Option.{option_and_then}
+use Rattle.std.specs.List.{AllByRecursion, join_with_byte}
 use Rattle.std.specs.Fmt.{decimal}
 use Rattle.std.specs.Cmp.Lexicographic.{same_text}
 use Rattle.kv_block.specs.Bytes.{key_eq}
@@ -14,14 +13,14 @@ use Rattle.trace_script.specs.declared.fault.ScriptKind.TheVariants as kind
 use Rattle.trace_script.specs.Words.{parts_at, number_of}
 use Rattle.map_model.specs.declared.calls.Call.{Call}
 use Rattle.trace_script.specs.Gives.{told_of}
-use Rattle.trace_script.specs.Content.{Content, ScriptValue, Sizes, no_content}
-use Rattle.trace_script.specs.ScriptText.{header_words, table_words, content_words, line_of, line_text, text_of, text_of_script}
-use Rattle.trace_script.specs.Rules.{◌>>=◌, or_else, Reading, Refusal, is_empty, version_of, behind_label, field, no_more, behind_table, SizeWords, size_words_1, size_words_2, size_words, sizes_told, are_sizes, table_of, next_line, on_line, read_lines, Told, Head, version_line, table_line, head_of, most_clients, script_of}
+use Rattle.trace_script.specs.Content.{ScriptValue, Sizes, no_content}
+use Rattle.trace_script.specs.ScriptText.{header_words, table_words, content_words, line_of, text_of, text_of_script}
+use Rattle.trace_script.specs.Rules.{◌>>=◌, or_else, Refusal, is_empty, version_of, behind_label, field, no_more, behind_table, SizeWords, size_words_1, size_words_2, size_words, sizes_told, are_sizes, table_of, next_line, on_line, read_lines, Told, Head, version_line, table_line, head_of, most_clients, script_of}
 use Rattle.trace_script.specs.Valid.{IsContent, IsScript}
-use Rattle.trace_script.proofs.Each.{ok_bind, ok_same, ok_or_else, ok_if, ok_unless, err_ok, nothing}
+use Rattle.trace_script.proofs.Each.{ok_bind, ok_same, ok_or_else, ok_if, err_ok, nothing}
 use Rattle.trace_script.proofs.Spelled.{decimal-number_of}
 use Rattle.trace_script.proofs.Taken.{IsReading}
-use Rattle.trace_script.proofs.FoundScript.{Rest, lines-found, end_words}
+use Rattle.trace_script.proofs.FoundScript.{lines-found, end_words}
 
 -- an answer on a line
 on_line-found : {A : Type 0} (n : ℕ) (read : Result A ScriptKind) (x : A) → on_line n read ≡ Ok x → read ≡ Ok x

@@ -1,23 +1,18 @@
 -- What is read as a script is the text of one.
-use Rattle.std.proofs.Common.{◌≡◌, ℕ, ◌+◌, ◌<◌, ◌≤◌, Bool, true, false, not, ◌&&◌, nat_eq, nat_lt, List, [], ◌∷◌, ◌++◌, length, map, Option, Some, None, Result, Ok, Err, codes, refl, sym, ap, subst, ◌∙◌, arith, append_assoc, append-nil, if◌then◌else◌}
+use Rattle.std.proofs.Common.{◌≡◌, ℕ, ◌+◌, ◌≤◌, Bool, true, false, not, ◌&&◌, nat_lt, List, [], ◌∷◌, ◌++◌, length, Option, Some, None, Result, Ok, Err, codes, refl, sym, ap, subst, ◌∙◌, arith, append_assoc, append-nil, if◌then◌else◌}
 use Rattle.std.proofs.lemmas.Bool.{cond-true, cond-false, true≢false, ltb-false}
-use Rattle.std.proofs.lemmas.Option.{same_Some, option_and_then_some}
-use Rattle.std.proofs.lemmas.Fmt.{decimal_digit}
 use Rattle.std.proofs.lemmas.List.Splits.{join_with_byte-slice_split}
-use Rattle.std.specs.List.{flat_map, AllByRecursion, join_with_byte, list_all}
-use Rattle.std.specs.Fmt.{decimal}
-use Rattle.std.specs.Cmp.Lexicographic.{same_text}
-use Rattle.kv_block.specs.Bytes.{key_eq}
+use Rattle.std.specs.List.{AllByRecursion, join_with_byte, list_all}
 use Rattle.trace_script.specs.declared.fault.ScriptKind.{ScriptKind}
 use Rattle.trace_script.specs.declared.fault.ScriptKind.TheVariants as kind
 use Rattle.trace_script.specs.declared.command.Command.{Command}
 use Rattle.trace_script.specs.declared.command.Command.TheVariants as command
-use Rattle.trace_script.specs.Words.{parts_at, number_of}
-use Rattle.trace_script.specs.Content.{Content, Sizes, no_content}
-use Rattle.trace_script.specs.ScriptText.{header_words, table_words, content_words, line_of, line_text, text_of}
-use Rattle.trace_script.specs.Rules.{◌>>=◌, or_else, Reading, Refusal, is_empty, misplaced, command_of, command_step, content_step, going_on, hash_step, client_step, insert_step, search_step, update_step, delete_step, resize_step, stop_step, schedule_step, unless_fault, words_step, line_step, is_printable, is_all, ending, goes_on, read_lines}
-use Rattle.trace_script.specs.Valid.{Each, IsContent, IsStop, IsSchedule, IsHash, IsClient}
-use Rattle.trace_script.proofs.Each.{ok_bind, ok_same, ok_or_else, ok_if, ok_unless, err_ok, nothing}
+use Rattle.trace_script.specs.Words.{parts_at}
+use Rattle.trace_script.specs.Content.{Content}
+use Rattle.trace_script.specs.ScriptText.{content_words, line_of, text_of}
+use Rattle.trace_script.specs.Rules.{or_else, Reading, Refusal, is_empty, misplaced, command_of, command_step, going_on, unless_fault, words_step, line_step, is_printable, is_all, goes_on, read_lines}
+use Rattle.trace_script.specs.Valid.{IsContent}
+use Rattle.trace_script.proofs.Each.{ok_bind, ok_same, ok_or_else, ok_if, err_ok, nothing}
 use Rattle.trace_script.proofs.Found.{command-found, command_word}
 use Rattle.trace_script.proofs.Taken.{IsReading, Took, took-command}
 

@@ -1,10 +1,10 @@
 -- What is read is spelled so, and what is spelled so is read: numbers, keys and values.
-use Rattle.std.proofs.Common.{◌≡◌, ℕ, ◌+◌, ◌-◌, ◌*◌, ◌/◌, ◌%◌, ◌^◌, ◌<◌, ◌≤◌, Bool, true, false, not, ◌&&◌, ◌||◌, nat_eq, nat_lt, List, [], ◌∷◌, ◌++◌, length, get_or, Option, Some, None, refl, sym, ap, subst, ◌∙◌, arith, inl, inr, cond}
-use Rattle.std.proofs.lemmas.Bool.{cond-true, cond-false, and_parts, and_from, and_left, and_right, not_from_false, not_from_true, cases_lt, ltb-true, ltb-false, leb-true, leb-false, lt-ltb, le-ltb, le-leb, lt-leb, eq-eqb, eqb-true, not-true, not-false}
+use Rattle.std.proofs.Common.{◌≡◌, ℕ, ◌+◌, ◌-◌, ◌*◌, ◌/◌, ◌%◌, ◌<◌, ◌≤◌, Bool, true, false, List, [], ◌∷◌, Option, Some, None, refl, sym, ap, subst, ◌∙◌, arith, inl, inr}
+use Rattle.std.proofs.lemmas.Bool.{cond-true, cond-false, and_parts, and_from, and_right, cases_lt, leb-true, lt-ltb, le-ltb, le-leb, lt-leb}
 use Rattle.std.proofs.lemmas.Option.{cond_some}
-use Rattle.std.proofs.lemmas.Nat.{div-add-mod', div-mul-add, mod-mul-add, div_below, mod_below, be_bytes_8, from_be_bytes-to_be_bytes_8}
-use Rattle.std.specs.List.{AllByRecursion, list_all}
-use Rattle.trace_script.specs.Spelling.{is_within, is_digit, hex_digit, hex_text, hex_number, is_plain, is_plain_text, spelled}
+use Rattle.std.proofs.lemmas.Nat.{div-add-mod', div-mul-add, mod-mul-add, div_below, mod_below}
+use Rattle.std.specs.List.{AllByRecursion}
+use Rattle.trace_script.specs.Spelling.{is_within, is_digit, hex_digit, hex_text}
 use Rattle.trace_script.specs.Words.{hex_value, hex_pair, in_front, hex_bytes}
 
 -- a byte between two others

@@ -1,5 +1,5 @@
 -- What stands before a line of a call.
-use Rattle.std.proofs.Common.{◌≡◌, Bool, true, false, not, ◌&&◌, Option, Some, None, refl, if◌then◌else◌}
+use Rattle.std.proofs.Common.{◌≡◌, Bool, true, false, not, ◌&&◌, Some, None, refl, if◌then◌else◌}
 use Rattle.trace_script.specs.declared.fault.ScriptKind.{ScriptKind}
 
 -- a call line stands behind a client's

@@ -1,20 +1,17 @@
 -- Words, and the lines that they make: no word has a space or a line feed.
-use Rattle.std.proofs.Common.{◌≡◌, ℕ, ◌+◌, ◌-◌, ◌*◌, ◌/◌, ◌%◌, ◌^◌, ◌<◌, ◌≤◌, Bool, true, false, not, ◌&&◌, ◌||◌, nat_eq, nat_lt, nat_le, List, [], ◌∷◌, ◌++◌, length, map, get_or, codes, refl, sym, ap, subst, ◌∙◌, arith, rules, inl, inr, if◌then◌else◌, append_assoc}
-use Rattle.std.proofs.lemmas.Bool.{cond-true, cond-false, and_parts, and_from, and_right, or_cases, not_from_false, cases_lt, cases_Bool, ltb-true, leb-true, le-leb, eqb-true, ne_eqb, lt-ltb, le-ltb, not-true, eqb-false}
+use Rattle.std.proofs.Common.{◌≡◌, ℕ, ◌+◌, ◌/◌, ◌%◌, ◌^◌, ◌<◌, ◌≤◌, Bool, true, false, nat_eq, List, [], ◌∷◌, ◌++◌, length, map, refl, sym, ap, subst, ◌∙◌, arith, rules, inl, inr, if◌then◌else◌, append_assoc}
+use Rattle.std.proofs.lemmas.Bool.{cond-true, cond-false, and_parts, and_from, or_cases, cases_lt, leb-true, le-leb, eqb-true, ne_eqb, lt-ltb, le-ltb, not-true}
 use Rattle.std.proofs.lemmas.List.Elements.{All-from_recursion}
 use Rattle.std.proofs.lemmas.List.Folds.{list_all-append}
 use Rattle.std.proofs.lemmas.List.Splits.{slice_split_at, slice_split_none}
 use Rattle.std.proofs.lemmas.Nat.{mod_below, div_below}
-use Rattle.std.proofs.lemmas.Str.Parse.{IsNumeralModel, numerals_by_value, IsDigitsTest}
 use Rattle.std.proofs.lemmas.Fmt.{digits_decimal, decimal_nonempty}
 use Rattle.std.specs.Fmt.{decimal}
-use Rattle.std.specs.Str.Parse.{digits_value}
 use Rattle.std.specs.Int.{w64, to_be_bytes}
-use Rattle.std.specs.List.{All, AllByRecursion, list_all, join_with_byte, slice_split}
-use Rattle.kv_block.specs.Bytes.{AreBytes}
-use Rattle.trace_script.specs.Spelling.{is_within, is_digit, is_small, is_capital, is_name_byte, is_plain, is_plain_text, hex_digit, hex_text, hex_number, spelled}
+use Rattle.std.specs.List.{AllByRecursion, list_all}
+use Rattle.trace_script.specs.Spelling.{is_within, is_digit, is_small, is_name_byte, is_plain, is_plain_text, hex_digit, hex_text, hex_number, spelled}
 use Rattle.trace_script.specs.Words.{parts_at, is_name}
-use Rattle.trace_script.specs.ScriptText.{line_of, line_text, text_of}
+use Rattle.trace_script.specs.ScriptText.{line_of, text_of}
 use Rattle.trace_script.specs.Rules.{is_empty, is_printable}
 use Rattle.trace_script.proofs.Spelled.{own}
 

@@ -1,5 +1,5 @@
 -- Items, read one after the other.
-use Rattle.std.proofs.Common.{◌≡◌, ℕ, ◌<◌, List, [], ◌∷◌, ◌++◌, Option, Some, None, length, refl, ap, append_assoc, suc, arith}
+use Rattle.std.proofs.Common.{◌≡◌, ℕ, List, [], ◌∷◌, ◌++◌, Option, Some, None, length, refl, ap, append_assoc, suc}
 use Rattle.map_model.specs.declared.plans.Item.{Item}
 use Rattle.trace_script.specs.Rules.{item_first}
 

@@ -1,5 +1,5 @@
 -- Schedule lines.
-use Rattle.std.proofs.Common.{◌≡◌, ℕ, List, false, Option, Some, Ok, ap, ◌∙◌}
+use Rattle.std.proofs.Common.{◌≡◌, ℕ, List, false, Some, Ok, ap, ◌∙◌}
 use Rattle.std.proofs.lemmas.Bool.{cond-false}
 use Rattle.map_model.specs.declared.plans.Item.{Item}
 use Rattle.trace_script.specs.declared.fault.ScriptKind.TheVariants as kind

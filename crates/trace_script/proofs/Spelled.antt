@@ -1,6 +1,6 @@
 -- Numbers, keys and values: what is read is spelled so, and what is spelled so is read.
-use Rattle.std.proofs.Common.{◌≡◌, ℕ, ◌+◌, ◌-◌, ◌*◌, ◌/◌, ◌%◌, ◌^◌, ◌<◌, ◌≤◌, zero, suc, Bool, true, false, not, ◌&&◌, ◌||◌, nat_eq, nat_lt, nat_le, List, [], ◌∷◌, ◌++◌, length, get_or, Option, Some, None, refl, sym, ap, subst, ◌∙◌, arith, rules, inl, inr, cond, if◌then◌else◌}
-use Rattle.std.proofs.lemmas.Bool.{cond-true, cond-false, and_parts, and_from, and_left, and_right, or_cases, not_from_false, not_from_true, cases_lt, ltb-true, ltb-false, leb-true, leb-false, lt-ltb, le-ltb, le-leb, lt-leb, eq-eqb, eqb-true, eqb-false, ne_eqb, not-true, not-false, true≢false}
+use Rattle.std.proofs.Common.{◌≡◌, ℕ, ◌^◌, ◌<◌, zero, suc, Bool, true, false, not, ◌&&◌, nat_eq, nat_lt, nat_le, List, [], ◌∷◌, length, get_or, Option, Some, None, refl, sym, ap, subst, ◌∙◌, arith, rules, inl, inr, cond, if◌then◌else◌}
+use Rattle.std.proofs.lemmas.Bool.{cond-true, cond-false, and_parts, and_from, and_right, not_from_false, cases_lt, ltb-true, leb-true, lt-ltb, le-leb, eq-eqb, eqb-true, eqb-false, ne_eqb, not-true, true≢false}
 use Rattle.std.proofs.lemmas.Option.{cond_some, option_and_then_some, same_Some}
 use Rattle.std.proofs.lemmas.Nat.{mod_below, be_bytes_8, from_be_bytes-to_be_bytes_8}
 use Rattle.std.proofs.lemmas.Str.Parse.{IsDigitsTest, IsNumeralModel, numerals_by_value}
@@ -8,11 +8,11 @@ use Rattle.std.proofs.lemmas.Fmt.{decimal-digits_value, digits_decimal, digits_v
 use Rattle.std.proofs.lemmas.List.Elements.{All-from_recursion, recursion_from_All}
 use Rattle.std.specs.Fmt.{decimal}
 use Rattle.std.specs.Option.{option_and_then}
-use Rattle.std.specs.Int.{w64, to_be_bytes, from_be_bytes}
+use Rattle.std.specs.Int.{w64, to_be_bytes}
 use Rattle.std.specs.List.{AllByRecursion, list_all}
 use Rattle.std.specs.Str.Parse.{digits_value}
-use Rattle.kv_block.specs.Bytes.{IsKeyLength, IsValueLength, AreBytes}
-use Rattle.trace_script.specs.Spelling.{is_within, is_digit, is_small, is_capital, hex_text, hex_number, is_plain, is_plain_text, spelled}
+use Rattle.kv_block.specs.Bytes.{AreBytes}
+use Rattle.trace_script.specs.Spelling.{is_within, is_digit, hex_text, hex_number, is_plain, is_plain_text, spelled}
 use Rattle.trace_script.specs.Words.{is_numeral, number_of, hex_bytes, eight_bytes_number, hex_number_of, not_plain, escaped_bytes, bytes_of, key_of, value_of}
 use Rattle.trace_script.specs.Valid.{IsKey, IsValue}
 use Rattle.trace_script.proofs.Numbers.{number_of-small}

@@ -1,5 +1,5 @@
 -- A line that is taken is the next line of what has been read then.
-use Rattle.std.proofs.Common.{◌≡◌, ℕ, ◌+◌, ◌<◌, ◌≤◌, Bool, true, false, not, ◌&&◌, nat_lt, List, [], ◌∷◌, ◌++◌, length, map, Option, Some, None, Result, Ok, Err, codes, refl, sym, ap, subst, ◌∙◌, arith, append_assoc, append-nil, suc, if◌then◌else◌}
+use Rattle.std.proofs.Common.{◌≡◌, ℕ, ◌+◌, ◌<◌, ◌≤◌, Bool, true, false, not, ◌&&◌, List, [], ◌∷◌, ◌++◌, length, map, Option, Some, None, Result, Ok, Err, codes, refl, sym, ap, subst, ◌∙◌, arith, append_assoc, append-nil, suc, if◌then◌else◌}
 use Rattle.std.proofs.lemmas.List.{map-append, length-append}
 use Rattle.std.proofs.lemmas.List.Concat.{flat_map-append}
 use Rattle.std.proofs.lemmas.Bool.{and_parts, true≢false, not-true}
@@ -14,7 +14,7 @@ use Rattle.trace_script.specs.declared.command.Command.{Command}
 use Rattle.trace_script.specs.declared.command.Command.TheVariants as command
 use Rattle.trace_script.specs.Content.{Content, names_of, with_hash, with_client, with_call, with_stop, with_schedule, called}
 use Rattle.trace_script.specs.ScriptText.{hash_words, client_words, call_words, stop_words, schedule_words, content_words}
-use Rattle.trace_script.specs.Rules.{◌>>=◌, Reading, is_empty, misplaced, content_step, going_on, after_call, insert_step, search_step, update_step, delete_step, resize_step, hash_step, client_step, stop_step, schedule_step, call_key, call_pair, command_step}
+use Rattle.trace_script.specs.Rules.{Reading, is_empty, misplaced, content_step, going_on, after_call, hash_step, client_step, stop_step, schedule_step, call_key, call_pair, command_step}
 use Rattle.trace_script.specs.Valid.{Each, IsCall, IsHash, IsClient, IsStop, IsSchedule, call_count}
 use Rattle.trace_script.proofs.Each.{Each-push, ok_bind, ok_same, err_ok, nothing}
 use Rattle.trace_script.proofs.Found.{hash-found, client-found, stop-found, schedule-found, key-found, pair-found, command_word}

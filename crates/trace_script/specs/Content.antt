@@ -1,5 +1,5 @@
 -- What a script has.
-use Rattle.std.specs.Prelude.{◌≡◌, ℕ, ◌+◌, Bool, nat_eq, List, [], ◌∷◌, ◌++◌, length, map, slice_index_or, Option, Some, None, position, sum_by}
+use Rattle.std.specs.Prelude.{ℕ, nat_eq, List, [], ◌∷◌, ◌++◌, map, slice_index_or, Option, position}
 use Rattle.std.specs.Map.{lookup}
 use Rattle.kv_block.specs.RoomyList.{RoomyList}
 use Rattle.kv_block.specs.Bytes.{key_eq}

@@ -1,5 +1,5 @@
 -- Reading a script line by line: what a line adds, or the first rule that it breaks.
-use Rattle.std.specs.Prelude.{◌≡◌, ℕ, ◌+◌, ◌^◌, ◌==◌, ◌&&◌, ◌||◌, nat_le, nat_lt, Bool, true, false, not, if◌then◌else◌, List, [], ◌∷◌, ◌++◌, length, map, codes, drop, Option, Some, None, is_some, is_none, Result, Ok, Err}
+use Rattle.std.specs.Prelude.{ℕ, ◌+◌, ◌==◌, ◌&&◌, nat_le, nat_lt, Bool, true, false, not, if◌then◌else◌, List, [], ◌∷◌, length, codes, Option, Some, None, is_some, is_none, Result, Ok, Err}
 use Rattle.std.specs.List.{list_all}
 use Rattle.std.specs.Option.{option_and_then}
 use Rattle.map_model.specs.declared.calls.Call.{Call}
@@ -15,7 +15,7 @@ use Rattle.trace_script.specs.declared.command.Command.{Command}
 use Rattle.trace_script.specs.declared.command.Command.TheVariants as command
 use Rattle.trace_script.specs.Spelling.{is_within, is_name_byte}
 use Rattle.trace_script.specs.Words.{parts_at, number_of, key_of, value_of, hex_number_of, is_name, one_of, two_of}
-use Rattle.trace_script.specs.Content.{Content, Sizes, no_content, names_of, client_at, stop_at, with_hash, with_client, with_call, with_stop, with_schedule}
+use Rattle.trace_script.specs.Content.{Content, Sizes, no_content, client_at, stop_at, with_hash, with_client, with_call, with_stop, with_schedule}
 
 infixl 10 ◌>>=◌
 abbrev pub ◌>>=◌ : {E A B : Type 0} → Result A E → (A → Result B E) → Result B E

@@ -1,5 +1,4 @@
 -- Line 2, as the code holds it.
-use Rattle.std.specs.Prelude.{ℕ}
 use Rattle.trace_script.specs.declared.table.SizeWords.{SizeWords}
 use Rattle.trace_script.specs.declared.table.Sizes.{Sizes}
 use Rattle.trace_script.specs.declared.reading.Head.{Head}

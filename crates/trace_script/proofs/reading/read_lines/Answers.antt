@@ -1,8 +1,7 @@
-use Rattle.std.proofs.Common.{sym, ap, ◌∙◌, Ok, subst}
+use Rattle.std.proofs.Common.{ap, ◌∙◌, Ok}
 use Rattle.trace_script.specs.Words.{parts_at}
-use Rattle.trace_script.specs.Rules.{Reading, Refusal, ending}
+use Rattle.trace_script.specs.Rules.{Reading, ending}
 use Rattle.trace_script.specs.Drafts.{reading_of}
-use Rattle.trace_script.specs.Gives.{Refuses, Reads}
 use Rattle.trace_script.proofs.Turns.{turn_halts, turn_ends}
 use Rattle.trace_script.proofs.reading.read_lines.Goals as goal
 

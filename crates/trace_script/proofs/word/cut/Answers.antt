@@ -1,6 +1,5 @@
-use Rattle.std.proofs.Common.{◌≡◌, ◌+◌, arith, add-one, ap, ◌∙◌, ◌∷◌, take, drop, length, ◌-◌, sym, length-drop}
+use Rattle.std.proofs.Common.{arith}
 use Rattle.std.proofs.lemmas.Bool.{eq-eqb, ne_eqb}
-use Rattle.trace_script.specs.Words.{parts_at}
 use Rattle.trace_script.proofs.Cuts.{parts_at-cut, parts_at-whole, none-more}
 use Rattle.trace_script.proofs.word.cut.Goals as goal
 

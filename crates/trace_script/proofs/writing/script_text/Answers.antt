@@ -1,4 +1,4 @@
-use Rattle.std.proofs.Common.{◌∙◌, ◌++◌, List, ℕ, ap, codes}
+use Rattle.std.proofs.Common.{◌∙◌, ◌++◌, ap, codes}
 use Rattle.node_words.specs.declared.geometry.Geometry.{Geometry}
 use Rattle.trace_script.specs.Content.{Content, sizes_of}
 use Rattle.trace_script.specs.ScriptText.{header_words, table_words, content_words, line_text, text_of}

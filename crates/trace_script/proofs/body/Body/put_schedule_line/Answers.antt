@@ -1,4 +1,4 @@
-use Rattle.std.proofs.Common.{◌∙◌, ◌++◌, ◌∷◌, [], ap, codes, append_assoc}
+use Rattle.std.proofs.Common.{◌∙◌, ◌∷◌, [], codes}
 use Rattle.std.proofs.lemmas.Result.{on_ok_weaker}
 use Rattle.trace_script.specs.Content.{names_of}
 use Rattle.trace_script.specs.ScriptText.{spaced_items}

@@ -1,4 +1,4 @@
-use Rattle.std.proofs.Common.{◌<◌, List, length, arith}
+use Rattle.std.proofs.Common.{◌<◌, length, arith}
 use Rattle.std.specs.List.{AllByRecursion}
 use Rattle.kv_block.specs.RoomyList.{RoomyList}
 use Rattle.map_model.specs.declared.plans.Item.{Item}

@@ -1,4 +1,4 @@
-use Rattle.std.proofs.Common.{◌≡◌, ◌++◌, ◌<◌, length, map, drop, List}
+use Rattle.std.proofs.Common.{◌≡◌, ◌++◌, ◌<◌, length, map, drop}
 use Rattle.std.specs.List.{AllByRecursion}
 use Rattle.trace_script.specs.Content.{names_of}
 use Rattle.map_model.specs.declared.plans.Item.{Item}
