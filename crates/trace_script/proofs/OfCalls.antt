@@ -1,6 +1,6 @@
 -- Clients and schedule lines that are made from plans and items.
-use Rattle.std.proofs.Common.{◌≡◌, ℕ, zero, suc, ◌+◌, ◌-◌, ◌^◌, ◌<◌, ◌≤◌, Bool, true, false, ◌&&◌, List, [], ◌∷◌, ◌++◌, length, map, take, drop, get_or, position, Option, Some, None, min, inl, inr, refl, sym, ap, subst, ◌∙◌, arith, codes, IsTrue, append-nil, append_assoc}
-use Rattle.std.proofs.lemmas.Bool.{and_parts, and_from, or_right, le-leb, true≢false}
+use Rattle.std.proofs.Common.{◌≡◌, ℕ, zero, suc, ◌+◌, ◌-◌, ◌^◌, ◌<◌, ◌≤◌, true, List, [], ◌∷◌, ◌++◌, length, map, take, drop, get_or, position, Option, Some, None, min, refl, sym, ap, subst, ◌∙◌, arith, IsTrue, append-nil, append_assoc}
+use Rattle.std.proofs.lemmas.Bool.{and_parts, and_from, or_right, le-leb}
 use Rattle.std.proofs.lemmas.Fmt.{decimal_injective, length-decimal-le, digits_decimal}
 use Rattle.std.proofs.lemmas.List.{length-drop, length-take, take_min, drop_min}
 use Rattle.std.proofs.lemmas.List.Quantifiers.{position-Some}

@@ -1,9 +1,9 @@
 -- What is made of plans and items is a script.
-use Rattle.std.proofs.Common.{◌≡◌, ℕ, zero, suc, ◌+◌, ◌*◌, ◌%◌, ◌^◌, ◌<◌, ◌≤◌, Bool, true, false, not, ◌&&◌, ◌||◌, ◌==◌, nat_lt, nat_le, List, [], ◌∷◌, ◌++◌, length, map, Option, Some, None, is_none, IsTrue, refl, sym, ap, subst, ◌∙◌, arith, codes, if◌then◌else◌}
+use Rattle.std.proofs.Common.{◌≡◌, ℕ, zero, suc, ◌+◌, ◌*◌, ◌%◌, ◌^◌, ◌<◌, ◌≤◌, Bool, true, false, not, ◌||◌, ◌==◌, nat_lt, List, [], ◌∷◌, ◌++◌, length, map, Option, Some, None, is_none, refl, sym, ap, subst, ◌∙◌, arith, codes, if◌then◌else◌}
 use Rattle.std.proofs.lemmas.Bool.{and_from, cond-false, le-leb, le-ltb, eq-eqb, ne_eqb}
-use Rattle.std.proofs.lemmas.Fmt.{length-decimal-le, decimal_digit}
+use Rattle.std.proofs.lemmas.Fmt.{length-decimal-le}
 use Rattle.std.proofs.lemmas.List.{length-append}
-use Rattle.std.specs.List.{AllByRecursion, flat_map, join_with_byte}
+use Rattle.std.specs.List.{AllByRecursion, flat_map}
 use Rattle.std.specs.Fmt.{decimal}
 use Rattle.map_model.specs.declared.calls.Call.{Call}
 use Rattle.map_model.specs.declared.calls.Call.TheVariants.{Insert, Search, Update, Delete, Resize}
@@ -16,11 +16,11 @@ use Rattle.node_words.specs.Limits.{words_needed}
 use Rattle.node_words.specs.Faults.{first_fault}
 use Rattle.node_words.proofs.Sizes.{group_range}
 use Rattle.trace_script.specs.Spelling.{spelled, hex_text, is_plain_text}
-use Rattle.trace_script.specs.Content.{Content, ScriptValue, Sizes, sizes_of, names_of}
+use Rattle.trace_script.specs.Content.{Content, sizes_of, names_of}
 use Rattle.trace_script.specs.ScriptText.{call_words, client_words, name_at, item_word, schedule_words, table_words, header_words, content_words, script_words, line_of, text_of_script}
-use Rattle.trace_script.specs.Rules.{are_sizes, most_depth}
-use Rattle.trace_script.specs.Valid.{Each, IsKey, IsValue, IsCall, IsClient, IsItem, IsSchedule, IsContent, IsScript, call_count}
-use Rattle.trace_script.specs.Made.{made_name, made_clients, made_schedules, made_content, made_script, planned_calls}
+use Rattle.trace_script.specs.Rules.{are_sizes}
+use Rattle.trace_script.specs.Valid.{Each, IsCall, IsClient, IsItem, IsSchedule, IsScript}
+use Rattle.trace_script.specs.Made.{made_clients, made_schedules, made_content, made_script, planned_calls}
 use Rattle.trace_script.proofs.Names.{length-name}
 use Rattle.trace_script.proofs.OfCalls.{length-made, made-calls, lines-made}
 

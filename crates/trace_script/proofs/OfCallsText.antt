@@ -7,7 +7,7 @@ use Rattle.map_model.specs.declared.calls.Call.TheVariants.{Search}
 use Rattle.map_model.specs.declared.plans.Item.{Item}
 use Rattle.map_model.specs.declared.plans.Plan.{Plan}
 use Rattle.node_words.specs.declared.geometry.Geometry.{Geometry}
-use Rattle.trace_script.specs.Content.{Content, names_of}
+use Rattle.trace_script.specs.Content.{names_of}
 use Rattle.trace_script.specs.ScriptText.{call_words, client_words, schedule_words, content_words, script_words, line_of, line_text, text_of, text_of_script}
 use Rattle.trace_script.specs.Valid.{Each, IsKey, IsCall, IsClient, IsItem, call_count}
 use Rattle.trace_script.specs.Made.{made_clients, lines_of_items, made_schedules, made_content, made_script, planned_calls}

@@ -51,7 +51,9 @@ fn made(rt: HostRuntime) -> Result<(), Fail> {
     let items = items_of_calls(rt.alloc(), 65)?;
     let text = text_of_search(rt.alloc(), geometry, key, items)?;
     let line = " c0!".repeat(rt.alloc(), 64)?;
-    let wanted = format!(in rt.alloc(); "race 1\ntable groups=1 depth=0 words=100 tries=3\nclient c0\nsearch k\nschedule{line}\nschedule c0!\nend\n")?;
+    let wanted = format!(in rt.alloc();
+        "race 1\ntable groups=1 depth=0 words=100 tries=3\nclient c0\nsearch k\nschedule{line}\nschedule c0!\nend\n"
+    )?;
     assert_eq!(rt; text.as_slice(), wanted.as_bytes());
     Ok(())
 }

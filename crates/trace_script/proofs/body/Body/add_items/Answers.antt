@@ -1,4 +1,4 @@
-use Rattle.std.proofs.Common.{◌≡◌, ◌<◌, List, ◌++◌, length, ◌∙◌, sym, ap, arith}
+use Rattle.std.proofs.Common.{List, ◌++◌, length, ◌∙◌, sym, ap, arith}
 use Rattle.std.proofs.lemmas.Bool.{eqb-true, eqb-false}
 use Rattle.map_model.specs.declared.plans.Item.{Item}
 use Rattle.trace_script.specs.Content.{Content}

@@ -1,4 +1,4 @@
-use Rattle.std.proofs.Common.{◌≡◌, ◌≤◌, [], ◌++◌, ◌∷◌, length, take, ◌+◌, ◌∙◌, sym, subst, arith, ap}
+use Rattle.std.proofs.Common.{◌≡◌, [], ◌++◌, ◌∷◌, take, ◌+◌, ◌∙◌, sym, subst, arith, ap}
 use Rattle.std.proofs.lemmas.List.{length-take-le, take_all, take_more}
 use Rattle.trace_script.specs.Valid.{Each, IsClient, IsCall}
 use Rattle.std.specs.List.{AllByRecursion}

@@ -1,5 +1,4 @@
 use Rattle.std.proofs.Common.{◌≡◌, [], take}
-use Rattle.trace_script.specs.Content.{with_client}
 use Rattle.trace_script.specs.Valid.{Each, IsClient}
 use Rattle.trace_script.specs.Made.{made_clients, made_content}
 use Rattle.trace_script.proofs.body.Body.of_plans.Given as goal

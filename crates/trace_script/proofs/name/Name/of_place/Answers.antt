@@ -1,4 +1,4 @@
-use Rattle.std.proofs.Common.{◌≡◌, ℕ, List, IsTrue, ◌∙◌, sym, subst}
+use Rattle.std.proofs.Common.{ℕ, List, IsTrue, ◌∙◌, sym, subst}
 use Rattle.trace_script.specs.Words.{is_name}
 use Rattle.trace_script.proofs.OfCalls.{made-is-name, name-there}
 use Rattle.trace_script.proofs.name.Name.of_place.Goals as goal

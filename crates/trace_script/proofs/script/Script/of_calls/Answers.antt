@@ -1,9 +1,8 @@
-use Rattle.std.proofs.Common.{◌≡◌, ◌++◌, [], List, ◌∙◌, sym, ap, subst}
-use Rattle.map_model.specs.declared.plans.Item.{Item}
+use Rattle.std.proofs.Common.{[], List, ◌∙◌, sym, ap, subst}
 use Rattle.map_model.specs.declared.plans.Plan.{Plan}
 use Rattle.trace_script.specs.Content.{Content, ScriptValue}
 use Rattle.trace_script.specs.Valid.{IsScript, Each, IsClient}
-use Rattle.trace_script.specs.Made.{made_clients, made_content, made_schedules, made_script}
+use Rattle.trace_script.specs.Made.{made_clients}
 use Rattle.trace_script.proofs.OfCallsScript.{made-is-script, content-made}
 use Rattle.trace_script.proofs.script.Script.of_calls.Goals as goal
 

@@ -1,4 +1,4 @@
-use Rattle.std.proofs.Common.{◌≡◌, ◌≤◌, List, ◌∷◌, [], None, length, sym, subst, arith}
+use Rattle.std.proofs.Common.{◌≤◌, List, None, length, sym, subst, arith}
 use Rattle.map_model.specs.declared.calls.Call.TheVariants.{Search}
 use Rattle.map_model.specs.declared.plans.Plan.{Plan}
 use Rattle.trace_script.specs.ScriptText.{text_of_script}
