@@ -2,9 +2,10 @@
 //!
 //! A script is a text of lines: a version, the table's sizes, listed hashes, clients with their calls, stops, and the
 //! schedule. Each script has one text. Reading answers the script that bytes spell, or the first line that breaks a
-//! rule and the first rule that it breaks. A script can also be made from plans and items. The report has a line for each
-//! call of a play, the pairs of the map in the end, and counts. The crate stands on `kv_block` (keys and values), `key_hash` (listed hashes), `node_words`
-//! (geometries) and `map_model` (calls and replies). The rules of both texts stand in docs/SCRIPTS.md.
+//! rule and the first rule that it breaks. A script can also be made from plans and items. The report has a line for
+//! each call of a play, the pairs of the map in the end, and counts. The crate stands on `kv_block` (keys and values),
+//! `key_hash` (listed hashes), `node_words` (geometries) and `map_model` (calls and replies). The rules of both texts
+//! stand in docs/SCRIPTS.md.
 #![tactic(auto)]
 
 mod body;
