@@ -30,3 +30,4 @@ pub mod Presence
 pub mod TheLaws
 pub mod Rights
 pub mod Possible
+pub mod FirstInsert

@@ -48,10 +48,10 @@ module _ (g : Geometry) (t : ℕ) (h : IsTable g [] t) where
   at_first : {A : Type 0} (f : ℕ → A) → f t ≡ f (first_table g where_it_is.index)
   at_first f = ap f where_it_is.is
 
-  opening_head : header_in g [] t ≡ PlainAt g.first_depth
+  pub opening_head : header_in g [] t ≡ PlainAt g.first_depth
   opening_head = at_first (header_in g []) ∙ ap header (opening_header g where_it_is.index where_it_is.below) ∙ plain_word g.first_depth (few_first g)
 
-  opening_head_bucket : (n : ℕ) → n < 2 * g.groups → bucket_in g [] t n ≡ PlainAt g.first_depth
+  pub opening_head_bucket : (n : ℕ) → n < 2 * g.groups → bucket_in g [] t n ≡ PlainAt g.first_depth
   opening_head_bucket n k = at_first (λ v. bucket_in g [] v n) ∙ ap header (opening_bucket g where_it_is.index n where_it_is.below k) ∙ plain_word g.first_depth (few_first g)
 
   opening_no_child : (i : ℕ) → i < 16 → child_in g [] t i ≡ 0
@@ -59,6 +59,9 @@ module _ (g : Geometry) (t : ℕ) (h : IsTable g [] t) where
 
   opening_birth_is : birth_in g [] t ≡ (let b : Birth = record { depth = g.first_depth; suffix = where_it_is.index; parent = 0 } in b)
   opening_birth_is = at_first (birth_in g []) ∙ ap birth (opening_birth g where_it_is.index where_it_is.below) ∙ birth_word_is g.first_depth where_it_is.index (few_first g) where_it_is.below
+
+  pub opening_birth_depth : (birth_in g [] t).depth ≡ g.first_depth
+  opening_birth_depth = ap (λ (x : Birth). x.depth) opening_birth_is
 
   opening_slot_empty : (p : ℕ) → IsPlace g p → place_in g [] t p ≡ Empty
   opening_slot_empty p k = at_first (λ v. place_in g [] v p) ∙ ap content (opening_slot g where_it_is.index p where_it_is.below k.0 k.1) ∙ content-0

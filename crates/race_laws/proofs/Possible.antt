@@ -12,19 +12,11 @@ use Rattle.verb_log.specs.declared.entry.Entry.{Entry}
 use Rattle.verb_log.specs.declared.kind.Kind.TheVariants.{Store, Take}
 use Rattle.verb_log.specs.Tables.{Past, word_at, words_at, table_of, role, linked_by, or_else, is_taken_by, moves_across, is_published, publishes}
 use Rattle.verb_log.specs.Kinds.{kind, kind_of_role, only_if}
-use Rattle.race_laws.specs.Setting.{Setting}
+use Rattle.race_laws.specs.Setting.{Setting, base}
 use Rattle.race_laws.specs.Legal.{Row, Meets, Legal}
+use Rattle.race_laws.specs.FirstInsert.{take_first, stores}
 use Rattle.race_laws.proofs.Touch.{taken_by_someone, word_kept, word_put}
-use Rattle.race_laws.proofs.Regions.{base, heap_none, heap_word, node_between, node_end}
-
--- the client takes n words of a node's opening
-abbrev pub take_first : Geometry → ℕ → ℕ → ℕ → Entry
-take_first g c k n = record { client = c; at = node_at g k; old = base g k; new = base g k + n }
-
--- and stores these words from an address on
-abbrev pub stores : Geometry → ℕ → ℕ → List ℕ → Past → Past
-stores g c a [] past = past
-stores g c a (w ∷ ws) past = stores g c (a + 1) ws (record { client = c; at = a; old = word_at g past a; new = w } ∷ past)
+use Rattle.race_laws.proofs.Regions.{heap_none, heap_word, node_between, node_end}
 
 -- entries on next words and heap words alone, so far
 pub record IsPlainLog (g : Geometry) (c from to : ℕ) (past : Past) : Type 0 where
@@ -46,7 +38,7 @@ module _ (s : Setting) (c k : ℕ) (low : k < s.geometry.nodes) (n : ℕ) (room 
       grows b m h = grind (arith, nat_tests)
 
   -- the take of a block
-  take_legal : 2 ≤ n → n ≤ 137 → Legal s (take_first s.geometry c k n ∷ [])
+  pub take_legal : 2 ≤ n → n ≤ 137 → Legal s (take_first s.geometry c k n ∷ [])
   take_legal two most = (
     tt,
     record {
@@ -58,7 +50,7 @@ module _ (s : Setting) (c k : ℕ) (low : k < s.geometry.nodes) (n : ℕ) (room 
     },
   )
 
-  take_plain : IsPlainLog s.geometry c (base s.geometry k) (base s.geometry k + n) (take_first s.geometry c k n ∷ [])
+  pub take_plain : IsPlainLog s.geometry c (base s.geometry k) (base s.geometry k + n) (take_first s.geometry c k n ∷ [])
   take_plain = record {
     tables = λ a. ap (λ r. or_else (first_table_of s.geometry a) (linked_by s.geometry (take_first s.geometry c k n) r a)) next_is ∙ or_none (first_table_of s.geometry a);
     published = λ a. ap (λ r. publishes s.geometry (take_first s.geometry c k n) r a || false) next_is;
@@ -110,13 +102,13 @@ module _ (s : Setting) (c k : ℕ) (low : k < s.geometry.nodes) (n : ℕ) (room 
         or_none None = refl
         or_none (Some t) = refl
 
-  stores_legal : (a : ℕ) (ws : List ℕ) (past : Past) → base s.geometry k ≤ a → a + length ws ≤ base s.geometry k + n → Legal s past → IsPlainLog s.geometry c (base s.geometry k) (base s.geometry k + n) past → Legal s (stores s.geometry c a ws past) × IsPlainLog s.geometry c (base s.geometry k) (base s.geometry k + n) (stores s.geometry c a ws past)
+  pub stores_legal : (a : ℕ) (ws : List ℕ) (past : Past) → base s.geometry k ≤ a → a + length ws ≤ base s.geometry k + n → Legal s past → IsPlainLog s.geometry c (base s.geometry k) (base s.geometry k + n) past → Legal s (stores s.geometry c a ws past) × IsPlainLog s.geometry c (base s.geometry k) (base s.geometry k + n) (stores s.geometry c a ws past)
   stores_legal a [] past from to l p = (l, p)
   stores_legal a (w ∷ ws) past from to l p =
       stores_legal (a + 1) ws _ (omega arith) (omega arith) (l, store_meets a w past from (omega arith) l p) (store_plain a w past from (omega arith) l p)
 
 -- what is stored is read back
-stores_before : (g : Geometry) (c a : ℕ) (ws : List ℕ) (past : Past) (x : ℕ) → x < a → word_at g (stores g c a ws past) x ≡ word_at g past x
+pub stores_before : (g : Geometry) (c a : ℕ) (ws : List ℕ) (past : Past) (x : ℕ) → x < a → word_at g (stores g c a ws past) x ≡ word_at g past x
 stores_before g c a [] past x h = refl
 stores_before g c a (w ∷ ws) past x h = stores_before g c (a + 1) ws _ x (omega arith) ∙ word_kept g past (record { client = c; at = a; old = word_at g past a; new = w }) x (λ q. omega arith)
 
@@ -128,9 +120,3 @@ stores_read g c a (w ∷ ws) past =
   where
     one_more : (a : ℕ) → suc a ≡ a + 1
     one_more a = omega arith
-
--- in every geometry and by every client: the words of a block are taken where there is room, and stored
-pub first_block_legal : (s : Setting) (c k : ℕ) → k < s.geometry.nodes → (ws : List ℕ) → 2 ≤ length ws → length ws ≤ 137 → base s.geometry k + length ws ≤ node_at s.geometry k + node_size s.geometry → Legal s (stores s.geometry c (base s.geometry k) ws (take_first s.geometry c k (length ws) ∷ []))
-first_block_legal s c k low ws two most room =
-    (stores_legal s c k low (length ws) room (base s.geometry k) ws (take_first s.geometry c k (length ws) ∷ []) (omega arith) (omega arith)
-    (take_legal s c k low (length ws) room two most) (take_plain s c k low (length ws) room)).0

@@ -4,16 +4,12 @@ use Rattle.std.proofs.Common.{sym, ◌∙◌, ap, arith, ⊎_elim}
 use Rattle.std.proofs.lemmas.Bool.Decides.{nat_tests}
 use Rattle.node_words.specs.declared.geometry.Geometry.{Geometry}
 use Rattle.node_words.specs.Addresses.{node_size, node_of, node_at, first_free}
-use Rattle.node_words.specs.Roles.{NextWord, HeapWord, role_in, first_table_of}
-use Rattle.node_words.specs.Opening.{role_word}
+use Rattle.node_words.specs.Roles.{HeapWord, role_in, first_table_of}
 use Rattle.node_words.proofs.Sizes.{first_free_fits, first_free_directory, first_free_low, node_at_is, node_at_high, node_of-div, node_is, node_at-0, node_size_range}
 use Rattle.node_words.proofs.FirstTables.{first_none_high}
 use Rattle.node_words.proofs.RoleLemmas.{heap_role}
+use Rattle.race_laws.specs.Setting.{base}
 use Rattle.race_laws.proofs.Touch.{same_or_not}
-
--- the first word of node k that may be taken
-abbrev pub base : Geometry → ℕ → ℕ
-base g k = role_word g (NextWord k)
 
 pub base-0 : (g : Geometry) (k : ℕ) → k ≡ 0 → base g k ≡ first_free g
 base-0 g k h = grind (arith, nat_tests)

@@ -11,11 +11,11 @@ use Rattle.node_words.proofs.RoleLemmas.{next_below}
 use Rattle.verb_log.specs.declared.entry.Entry.{Entry}
 use Rattle.verb_log.specs.Decoded.{Body, content}
 use Rattle.verb_log.specs.Tables.{Past, Before, word_at, words_at, pair_at, is_among, table_of, role, or_else, links, linked_by, is_taken, moves_across, is_published, publishes, covers}
-use Rattle.race_laws.specs.Setting.{Setting}
+use Rattle.race_laws.specs.Setting.{Setting, base}
 use Rattle.race_laws.specs.Legal.{Meets}
 use Rattle.race_laws.proofs.Step.{StepAt, step_of, SlotStep, place, drop, commit, replace, remove, copy, uncopy, flip, settle, clear}
 use Rattle.race_laws.proofs.Touch.{word_put, touched, table_stays, taken_stays, published_stays, or_either, and_both, taken_by_someone}
-use Rattle.race_laws.proofs.Regions.{base, node_end, node_between}
+use Rattle.race_laws.proofs.Regions.{node_end, node_between}
 use Rattle.race_laws.proofs.Sound.{IsTakenAt, Named, Sound, next_is, fresh_none, named_heap}
 use Rattle.race_laws.proofs.Covers.{among, covered, covers_none, linked_is, linked_to, links_child, links_publish, moved_by, or_left, published_before}
 use Rattle.race_laws.proofs.Slots.{slot_place_of, standing_named}

@@ -13,7 +13,8 @@ use Rattle.node_words.proofs.RoleLemmas.{next_role}
 use Rattle.node_words.proofs.OpeningWords.{next_apart}
 use Rattle.verb_log.specs.Decoded.{Body, Full, content}
 use Rattle.verb_log.specs.Tables.{Past, word_at, pair_at, table_of, role, is_taken, is_published}
-use Rattle.race_laws.proofs.Regions.{base, base_from, heap_none, heap_word}
+use Rattle.race_laws.specs.Setting.{base}
+use Rattle.race_laws.proofs.Regions.{base_from, heap_none, heap_word}
 
 -- a taken word lies between its node's base and its node's next word
 pub record IsTakenAt (g : Geometry) (past : Past) (a : ℕ) : Type 0 where

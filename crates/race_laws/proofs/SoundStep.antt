@@ -14,12 +14,12 @@ use Rattle.node_words.proofs.RoleLemmas.{next_role, child_in, slot_in}
 use Rattle.verb_log.specs.declared.entry.Entry.{Entry}
 use Rattle.verb_log.specs.Decoded.{Body, Empty, Full, content}
 use Rattle.verb_log.specs.Tables.{Past, Before, here, later, word_at, pair_at, table_of, role, links, is_taken, is_published, publishes}
-use Rattle.race_laws.specs.Setting.{Setting}
+use Rattle.race_laws.specs.Setting.{Setting, base}
 use Rattle.race_laws.specs.Rows.{IsFresh, IsBlank}
 use Rattle.race_laws.specs.Legal.{Meets, Legal}
 use Rattle.race_laws.proofs.Step.{StepAt, step_of, SlotStep, place, drop, commit, replace, remove, copy, uncopy, flip, settle, clear}
 use Rattle.race_laws.proofs.Touch.{role_stays, word_kept, word_put, touched, taken_by_someone}
-use Rattle.race_laws.proofs.Regions.{base, base_to}
+use Rattle.race_laws.proofs.Regions.{base_to}
 use Rattle.race_laws.proofs.Sound.{Named, Sound, taken_heap, fresh_none}
 use Rattle.race_laws.proofs.RegionsStep.{link_row, named_kept, next_grows, packs_kept, published_step, table_cases, tables_step, taken_step, whole_step, words_kept}
 use Rattle.race_laws.proofs.Slots.{content-0, full_same, role_by_offset, slot_place_of, standing_named}

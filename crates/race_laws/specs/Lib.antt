@@ -7,3 +7,4 @@ pub mod Rows
 pub mod Legal
 pub mod Laws
 pub mod Leaving
+pub mod FirstInsert

@@ -1,6 +1,8 @@
 -- What a log is judged by besides its entries: the geometry and the hashes of keys, which never change.
 use Rattle.std.specs.Prelude.{ℕ, List}
 use Rattle.node_words.specs.declared.geometry.Geometry.{Geometry}
+use Rattle.node_words.specs.Roles.{NextWord}
+use Rattle.node_words.specs.Opening.{role_word}
 use Rattle.key_hash.specs.Placing.{Pairs, placed}
 use Rattle.bucket_group.specs.Buckets.{candidates, first_bucket, fingerprint_of}
 
@@ -23,3 +25,7 @@ main_of s key = first_bucket s.geometry.groups (hash s key)
 
 abbrev pub print_of : Setting → List ℕ → ℕ
 print_of s key = fingerprint_of (hash s key)
+
+-- the first word of a node that may be taken
+abbrev pub base : Geometry → ℕ → ℕ
+base g k = role_word g (NextWord k)

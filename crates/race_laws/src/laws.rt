@@ -1,5 +1,6 @@
-//! The seven laws of legal logs. Each function has an empty body, and its contract is the law, of every legal log over a
-//! checked geometry and hashes that never change. docs/LAWS.md has the idea of each proof.
+//! The seven laws of legal logs, and one that says that legal logs are possible. Each function has an empty body, and its
+//! contract is the law, over every checked geometry and hashes that never change. docs/LAWS.md has the idea of each proof.
+ghost use Rattle.race_laws.specs.FirstInsert.{InsertIsLegal};
 ghost use Rattle.race_laws.specs.Laws.{OneHolder, HolderPlace, Finality, ClearPlaces, CommitLaw, Absence, Presence};
 
 /// One holder: at each position a key has at most one holder, it has one exactly where the map of the changes so far has the
@@ -41,4 +42,11 @@ pub fn law_absence()
 /// child after a position at which the same place of the parent was moved of its block.
 pub fn law_presence()
     ensures { Presence }
+{}
+
+/// Legal logs are possible: in every geometry, by every client, of every pair, on a node with room for its block and at each
+/// candidate of its key, a first insert is a legal log (the words of a block are taken and stored, the block is placed in an
+/// empty slot, a sweep finds nothing, and the block is committed), and its slot is then the key's holder.
+pub fn law_first_insert()
+    ensures { InsertIsLegal }
 {}

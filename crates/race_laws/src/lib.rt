@@ -1,4 +1,4 @@
-//! What makes a log of verbs legal, and the seven laws that every legal log keeps.
+//! What makes a log of verbs legal, the seven laws that every legal log keeps, and that there are legal logs.
 //!
 //! A log is legal where each entry has a kind and meets the row of its kind: a Commit follows a sweep, a Flip a copy,
 //! a Finish clear places, and so on. The definitions stand in specs/, from chains to legal logs, each with its sentence;
@@ -16,7 +16,7 @@ mod tests;
 
 pub use area::Area;
 pub use laws::{
-    law_absence, law_clear_places, law_commit, law_finality, law_holder_place, law_one_holder,
-    law_presence,
+    law_absence, law_clear_places, law_commit, law_finality, law_first_insert, law_holder_place,
+    law_one_holder, law_presence,
 };
 pub use leaving::leaves;
