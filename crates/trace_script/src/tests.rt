@@ -5,6 +5,8 @@ mod largest;
 mod lengths;
 mod lines;
 mod made;
+mod readers;
+mod reports;
 mod sizes;
 mod texts;
 
