@@ -4,7 +4,7 @@ ghost use Rattle.trace_script.specs.Report.{IsOfCall};
 use crate::{Line, Lines, Mode, Script, Tag, Text, read_script, report_text};
 use kv_block::{Key, Value};
 use map_model::{Call, MapMachine, Nexts, Reply};
-use std::alloc::{AllocError, Global};
+use std::alloc::Global;
 use std::test::Fail;
 
 /// Two clients with six calls in all.
