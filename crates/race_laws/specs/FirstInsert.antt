@@ -52,8 +52,8 @@ abbrev pub first_insert : Setting → ℕ → ℕ → Pair → ℕ → Past
 first_insert s c k q p =
     on_slot c (slot_at (table_for s q.key) p) (word_of Pending (first_block s k q)) (word_of Live (first_block s k q)) ∷ placed_in s c k q p
 
--- In every geometry, by every client, of every pair, on a node with room for its block, at each candidate of its key: a first
--- insert is a legal log, and the slot is then the key's holder
+-- In every geometry, by every client, of every pair whose key has a hash below 2 ^ 64, on a node with room for its block, at
+-- each candidate of the key: a first insert is a legal log, and the slot is then the key's holder
 abbrev pub InsertIsLegal : Type 0
 InsertIsLegal =
     (s : Setting) (c k : ℕ) (q : Pair) (p : ℕ) → k < s.geometry.nodes → IsPair q → hash s q.key < 2 ^ 64 → IsIn p (places s q.key)

@@ -44,9 +44,10 @@ pub fn law_presence()
     ensures { Presence }
 {}
 
-/// Legal logs are possible: in every geometry, by every client, of every pair, on a node with room for its block and at each
-/// candidate of its key, a first insert is a legal log (the words of a block are taken and stored, the block is placed in an
-/// empty slot, a sweep finds nothing, and the block is committed), and its slot is then the key's holder.
+/// Legal logs are possible: in every geometry, by every client, of every pair whose key has a hash below 2^64 (as each placer
+/// answers), on a node with room for its block and at each candidate of its key, a first insert is a legal log (the words of a
+/// block are taken and stored, the block is placed in an empty slot, a sweep finds nothing, and the block is committed), and
+/// its slot is then the key's holder.
 pub fn law_first_insert()
     ensures { InsertIsLegal }
 {}
