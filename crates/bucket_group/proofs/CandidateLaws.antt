@@ -7,7 +7,7 @@ use Rattle.std.proofs.lemmas.Bool.Decides.{nat_tests}
 use Rattle.std.proofs.lemmas.Nat.{mod_below}
 use Rattle.std.proofs.lemmas.List.{get_or_default}
 use Rattle.node_words.specs.Addresses.{slot_at, bucket_header_at}
-use Rattle.bucket_group.specs.Buckets.{main_place, overflow_place, neighbour, first_bucket, drawn_bucket, second_bucket, candidates}
+use Rattle.bucket_group.specs.Buckets.{main_place, overflow_place, neighbour, first_bucket, drawn_bucket, second_bucket, candidates, IsSlotPlace}
 use Rattle.bucket_group.specs.PlaceLists.{length-places, index-places}
 
 -- the main buckets of a hash are two of the table's
@@ -105,7 +105,7 @@ start_range groups a b (suc (suc zero)) h l r = (omega arith, omega arith)
 start_range groups a b (suc (suc (suc zero))) h l r = (omega arith, omega arith)
 start_range groups a b (suc (suc (suc (suc k)))) h l r = absurd (omega arith)
 
-pub slot_of_start : (groups p b i : ℕ) → p ≡ b + 1 + i % 7 → b % 8 ≡ 0 → b + 8 ≤ 24 * groups → (p < 24 * groups) × (p % 8 ≢ 0)
+pub slot_of_start : (groups p b i : ℕ) → p ≡ b + 1 + i % 7 → b % 8 ≡ 0 → b + 8 ≤ 24 * groups → IsSlotPlace groups p
 slot_of_start groups p b i e h l = (omega arith, omega arith)
 
 pub starts_eights : (a b k : ℕ) → get_or (starts a b) k 0 % 8 ≡ 0
@@ -119,7 +119,7 @@ pub same_start : (b c i j : ℕ) → b % 8 ≡ 0 → c % 8 ≡ 0 → b + 1 + i %
 same_start b c i j h l e = (omega arith, omega arith)
 
 -- a candidate is the place of a slot of the table
-pub candidate_slot : (groups hash i : ℕ) → 0 < groups → i < length (candidates groups hash) → (get_or (candidates groups hash) i 0 < 24 * groups) × (get_or (candidates groups hash) i 0 % 8 ≢ 0)
+pub candidate_slot : (groups hash i : ℕ) → 0 < groups → i < length (candidates groups hash) → IsSlotPlace groups (get_or (candidates groups hash) i 0)
 candidate_slot groups hash i h l =
     let n = length-candidates_two groups hash in
     let k : i / 7 < 4 = grind arith in
@@ -128,10 +128,10 @@ candidate_slot groups hash i h l =
     slot_of_start groups (get_or (candidates groups hash) i 0) (get_or (starts (first_bucket groups hash) (second_bucket groups hash)) (i / 7) 0) i e r.0 r.1
 
 -- the same of each element
-pub candidates_slots : (groups hash p : ℕ) → 0 < groups → Contains (candidates groups hash) p → (p < 24 * groups) × (p % 8 ≢ 0)
+pub candidates_slots : (groups hash p : ℕ) → 0 < groups → Contains (candidates groups hash) p → IsSlotPlace groups p
 candidates_slots groups hash p h c =
     let e : get_or (candidates groups hash) c.0 0 ≡ p = get_or_default (candidates groups hash) c.0 0 p c.1 ∙ c.2 in
-    subst (λ q. (q < 24 * groups) × (q % 8 ≢ 0)) e (candidate_slot groups hash c.0 h c.1)
+    subst (IsSlotPlace groups) e (candidate_slot groups hash c.0 h c.1)
 
 -- no candidate stands twice
 pub candidates_apart : (groups hash i j : ℕ) → i < length (candidates groups hash) → j < length (candidates groups hash) → get_or (candidates groups hash) i 0 ≡ get_or (candidates groups hash) j 0 → i ≡ j

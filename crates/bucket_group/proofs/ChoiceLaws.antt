@@ -1,12 +1,12 @@
 -- What the choice says of the candidates.
 
 use Rattle.std.proofs.Common.{◌≡◌, ◌≢◌, ℕ, zero, suc, ◌+◌, ◌<◌, ◌≤◌, ◌⊎◌, inl, inr, ⊎_elim, Bool, true, false, not, cond, List, [], ◌∷◌, ◌++◌, length, Option, Some, None, refl, sym, ap, subst, ◌∙◌, arith}
-use Rattle.std.specs.Prelude.{find, count_by, IfSome, IfNone}
+use Rattle.std.specs.Prelude.{find, count_by, slice_index, IfSome, IfNone}
 use Rattle.std.specs.List.{range_with_len}
 use Rattle.std.proofs.lemmas.Bool.{cases_lt, cases_eq}
 use Rattle.std.proofs.lemmas.Bool.Decides.{nat_tests}
 use Rattle.std.proofs.lemmas.List.Sums.{sum_by-cons, count_by-le-length}
-use Rattle.bucket_group.specs.Choice.{is_free, first_combined, second_combined, taken_of, first_free_of, choice}
+use Rattle.bucket_group.specs.Choice.{is_free, first_combined, second_combined, taken_of, first_free_of, choice, emptier, IsFirstFree}
 
 -- what holds of each element of a list
 abbrev pub Each : (ℕ → Type 0) → List ℕ → Type 0
@@ -152,6 +152,41 @@ choice-tells_some n free (Some i) t e = let x = choice-free n free i t (sym e) i
 pub choice-tells_none : (n : ℕ) (free : List Bool) (o : Option ℕ) → (n ≡ 21) ⊎ (n ≡ 28) → o ≡ choice n free → IfNone o ((i : ℕ) → i < n → is_free free i ≡ false)
 choice-tells_none n free None t e = λ i r. choice-none n free i t (sym e) r
 choice-tells_none n free (Some i) t e = tt
+
+-- the first that is free of a list, by its number
+pub before_next : (free : List Bool) (x : ℕ) (xs : List ℕ) (n j : ℕ) → is_free free x ≡ false → ((k : ℕ) → k < n → is_free free (slice_index xs k) ≡ false) → j < suc n → is_free free (slice_index (x ∷ xs) j) ≡ false
+before_next free x xs n zero f h l = f
+before_next free x xs n (suc j) f h l = h j (omega arith)
+
+pub find-first : (free : List Bool) (xs : List ℕ) (i : ℕ) → find (λ j. is_free free j) xs ≡ Some i → IsFirstFree free xs i
+find-first free [] i e = absurd (cc)
+find-first free (x ∷ xs) i e =
+    elim (pass_cases (is_free free x)) [
+      | inl t ↦ (let q : x ≡ i = cc in
+          record { number = 0; among = omega arith; named = q; found = subst (λ j. is_free free j ≡ true) q t; before = λ j l. absurd (omega arith) })
+      | inr f ↦ (let r = find-first free xs i (cc) in let a = r.among in
+          record { number = suc r.number; among = omega arith; named = r.named; found = r.found; before = λ j l. before_next free x xs r.number j f r.before l })
+    ]
+
+-- the choice is the first that is free in the emptier combined bucket
+pub emptier-first : (n : ℕ) (free : List Bool) → taken_of free first_combined ≤ taken_of free (second_combined n) → emptier n free ≡ first_combined
+unfolding emptier
+emptier-first n free h = grind (arith, nat_tests)
+
+pub emptier-second : (n : ℕ) (free : List Bool) → taken_of free (second_combined n) < taken_of free first_combined → emptier n free ≡ second_combined n
+unfolding emptier
+emptier-second n free h = grind (arith, nat_tests)
+
+pub choice-emptier : (n : ℕ) (free : List Bool) → choice n free ≡ first_free_of free (emptier n free)
+choice-emptier n free =
+    elim (cases_lt (taken_of free (second_combined n)) (taken_of free first_combined)) [
+      | inl l ↦ choice-second n free l ∙ ap (first_free_of free) (sym (emptier-second n free l))
+      | inr l ↦ choice-first n free l ∙ ap (first_free_of free) (sym (emptier-first n free l))
+    ]
+
+pub choice-tells_first : (n : ℕ) (free : List Bool) (o : Option ℕ) → o ≡ choice n free → IfSome o (IsFirstFree free (emptier n free))
+choice-tells_first n free None e = tt
+choice-tells_first n free (Some i) e = find-first free (emptier n free) i (sym (choice-emptier n free) ∙ sym e)
 
 -- the two ways to the choice, by the counts and what was found
 pub first_is_choice : (n : ℕ) (free : List Bool) (second : List ℕ) (t u : ℕ) (o : Option ℕ) → second ≡ second_combined n → t ≡ taken_of free first_combined → u ≡ taken_of free second → t ≤ u → o ≡ first_free_of free first_combined → o ≡ choice n free

@@ -5,7 +5,8 @@ use Rattle.std.proofs.lemmas.Bool.{cases_eq}
 use Rattle.std.proofs.lemmas.Nat.{mod-pow-add, field_of}
 use Rattle.std.proofs.Math.Pow.{mod-mod-pow}
 use Rattle.std.proofs.lemmas.Bool.Decides.{nat_tests}
-use Rattle.bucket_group.specs.ExitLevel.{bit_of, exit_from, exit_level}
+use Rattle.std.specs.Prelude.{IfSome, IfNone, Option, None}
+use Rattle.bucket_group.specs.ExitLevel.{bit_of, exit_from, exit_level, IsLeastSet}
 
 -- a level is the least whose bit is set, of the n from b on
 pub record IsExit (n b hash i : ℕ) : Type 0 where
@@ -109,6 +110,17 @@ exit-none hash b j h k l = exit_from-none (16 - b) b hash j h k (omega arith)
 pub exit-is_none : (hash b : ℕ) → ((j : ℕ) → b ≤ j → j < 16 → bit_of hash j ≡ 0) → exit_level hash b ≡ None
 unfolding exit_level
 exit-is_none hash b h = exit_from-is_none (16 - b) b hash (λ j k l. h j k (omega arith))
+
+-- both, of a result that is the exit level
+pub exit-tells_some : (hash b : ℕ) (o : Option ℕ) → o ≡ exit_level hash b → IfSome o (λ i. IsLeastSet b hash i)
+exit-tells_some hash b None e = tt
+exit-tells_some hash b (Some i) e =
+    let r = exit-some hash b i (sym e) in
+    record { from = r.from; below = exit-below hash b i (sym e); set = r.set; least = r.least }
+
+pub exit-tells_none : (hash b : ℕ) (o : Option ℕ) → o ≡ exit_level hash b → IfNone o ((i : ℕ) → b ≤ i → i < 16 → bit_of hash i ≡ 0)
+exit-tells_none hash b None e = λ i h l. exit-none hash b i (sym e) h l
+exit-tells_none hash b (Some i) e = tt
 
 -- one more bit of a hash
 pub low_bit : (hash i : ℕ) → hash % 2 ^ (i + 1) ≡ bit_of hash i * 2 ^ i + hash % 2 ^ i

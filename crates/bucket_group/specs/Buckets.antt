@@ -1,6 +1,6 @@
 -- Where a key may stand in a table, by its hash.
 
-use Rattle.std.specs.Prelude.{◌≡◌, ◌≤◌, ℕ, ◌+◌, ◌-◌, ◌*◌, ◌/◌, ◌%◌, ◌^◌, ◌==◌, if◌then◌else◌, List, [], ◌++◌, length, slice_index}
+use Rattle.std.specs.Prelude.{◌≡◌, ◌≢◌, ◌<◌, ◌≤◌, ℕ, ◌+◌, ◌-◌, ◌*◌, ◌/◌, ◌%◌, ◌^◌, ◌==◌, if◌then◌else◌, List, [], ◌++◌, length, slice_index}
 use Rattle.std.specs.List.{range_with_len}
 
 -- the place of the first word of main bucket m, which is its header
@@ -33,6 +33,10 @@ second_bucket groups hash = if drawn_bucket groups hash == first_bucket groups h
 -- the place of the first word of a bucket, in the largest table
 abbrev pub IsBucketStart : ℕ → Type 0
 IsBucketStart b = (b % 8 ≡ 0) × (b + 8 ≤ 24 * 64)
+
+-- the place of a slot in tables of so many groups: within the table, and the first word of no bucket
+abbrev pub IsSlotPlace : ℕ → ℕ → Type 0
+IsSlotPlace groups p = (p < 24 * groups) × (p % 8 ≢ 0)
 
 -- the places of the seven slots of the bucket whose first word has place b
 abbrev pub slots_from : ℕ → List ℕ

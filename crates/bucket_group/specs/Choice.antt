@@ -1,6 +1,6 @@
 -- Which free candidate an insert takes.
 
-use Rattle.std.specs.Prelude.{ℕ, ◌==◌, nat_le, Bool, false, not, if◌then◌else◌, List, ◌++◌, Option, slice_index_or, find, count_by}
+use Rattle.std.specs.Prelude.{◌≡◌, ◌<◌, ℕ, ◌==◌, nat_le, Bool, true, false, not, if◌then◌else◌, List, ◌++◌, length, Option, slice_index, slice_index_or, find, count_by}
 use Rattle.std.specs.List.{range_with_len}
 
 -- whether candidate i is free
@@ -29,3 +29,15 @@ choice n free =
     if nat_le (taken_of free first_combined) (taken_of free (second_combined n))
     then first_free_of free first_combined
     else first_free_of free (second_combined n)
+
+-- the combined bucket, of n candidates, that has fewer slots that are not free; the first where both have as many
+unfoldable pub emptier : ℕ → List Bool → List ℕ
+emptier n free = if nat_le (taken_of free first_combined) (taken_of free (second_combined n)) then first_combined else second_combined n
+
+-- candidate i is the first of these that is free
+pub record IsFirstFree (free : List Bool) (candidates : List ℕ) (i : ℕ) : Type 0 where
+  pub number : ℕ
+  pub among : number < length candidates
+  pub named : slice_index candidates number ≡ i
+  pub found : is_free free i ≡ true
+  pub before : (j : ℕ) → j < number → is_free free (slice_index candidates j) ≡ false

@@ -1,5 +1,5 @@
-ghost use Rattle.std.specs.Prelude.{◌≡◌, ◌<◌, ◌*◌};
-ghost use Rattle.bucket_group.specs.Buckets.{candidates, first_bucket, main_place, overflow_place, neighbour, IsBucketStart};
+ghost use Rattle.std.specs.Prelude.{ℕ, ◌≡◌, ◌<◌, ◌*◌, length, slice_index};
+ghost use Rattle.bucket_group.specs.Buckets.{candidates, first_bucket, main_place, overflow_place, neighbour, IsBucketStart, IsSlotPlace};
 
 use crate::place_list::{Combined, Places};
 use node_words::Geometry;
@@ -16,9 +16,20 @@ pub fn first_bucket(geometry: &Geometry, hash: u64) -> u32
 
 /// The candidates of a hash in every table of this geometry. The first main bucket is drawn by the bits
 /// from 16 on and the second by the bits from 32 on, each modulo twice the groups; where both are equal the
-/// second is the first with its lowest bit flipped.
-#[tactic(auto, unfolding(crate::specs::Buckets::candidates, crate::specs::Buckets::second_bucket, crate::specs::Buckets::drawn_bucket))]
+/// second is the first with its lowest bit flipped. Each is the place of a slot of the table, and none comes
+/// twice.
 pub fn places(geometry: &Geometry, hash: u64) -> Places
+    ensures places { result ≡ candidates geometry.now.groups hash }
+    ensures slots { (i : ℕ) → i < length result → IsSlotPlace geometry.now.groups (slice_index result i) }
+    ensures distinct { (i j : ℕ) → i < length result → j < length result
+        → slice_index result i ≡ slice_index result j → i ≡ j }
+{
+    buckets_of(geometry, hash)
+}
+
+/// The two main buckets of a hash, each with its overflow bucket.
+#[tactic(auto, unfolding(crate::specs::Buckets::candidates, crate::specs::Buckets::second_bucket, crate::specs::Buckets::drawn_bucket))]
+fn buckets_of(geometry: &Geometry, hash: u64) -> Places
     ensures { result ≡ candidates geometry.now.groups hash }
 {
     let mains = 2 * u64::from(geometry.groups);

@@ -1,5 +1,5 @@
 ghost use Rattle.std.specs.Prelude.{ℕ, ◌≡◌, ◌<◌, ◌≢◌, true, false, length, slice_set, replicate, find, count_by, not, IfSome, IfNone};
-ghost use Rattle.bucket_group.specs.Choice.{is_free, choice, second_combined};
+ghost use Rattle.bucket_group.specs.Choice.{is_free, choice, second_combined, emptier, IsFirstFree};
 
 use crate::place_list::Places;
 use std::marker::Model;
@@ -83,10 +83,19 @@ impl Free {
 /// where no candidate is free.
 pub fn choose(places: &Places, free: &Free) -> Option<usize>
     ensures choice { result ≡ choice (length places.now) free.now }
+    ensures first { IfSome result (IsFirstFree free.now (emptier (length places.now) free.now)) }
     ensures some { IfSome result (λ i. (i < length places.now) × (is_free free.now i ≡ true)) }
     ensures none { IfNone result ((i : ℕ) → i < length places.now → is_free free.now i ≡ false) }
 {
-    let second = second_combined(places.len());
+    let candidates = places.len();
+    choice_among(candidates, free)
+}
+
+/// The choice among so many candidates.
+fn choice_among(candidates: usize, free: &Free) -> Option<usize>
+    ensures { result ≡ choice candidates free.now }
+{
+    let second = second_combined(candidates);
     if free.taken(&FIRST) <= free.taken(second) {
         free.first_of(&FIRST)
     } else {

@@ -2,9 +2,9 @@ ghost use Rattle.std.specs.Prelude.{ℕ, ◌≡◌, ◌<◌, ◌++◌, ◌∷◌
 ghost use Rattle.key_hash.specs.Placing.{Pairs, AreDistinct, is_listed, placed};
 
 use crate::mixing::mix_key;
-use indexmap::IndexMap;
 use kv_block::Key;
 use std::alloc::{AllocError, Global};
+use std::collections::BTreeMap;
 use std::marker::Model;
 
 /// Gives each key its number.
@@ -32,21 +32,23 @@ impl Placer for Mixed {
 }
 
 /// Gives listed keys their stated numbers, and the rest the number `mixed`. The keys stand in the order in
-/// which they were added.
+/// which they were added. A number is found by the order of the keys' bytes, so that no choice of keys makes
+/// it slow.
 #[derive(Drop)]
 pub struct Listed {
-    map: IndexMap<Key, u64>,
+    pairs: Vec<(Key, u64)>,
+    numbers: BTreeMap<Key, u64>,
 }
 
 impl Model for Listed {
     ghost use Rattle.std.specs.Prelude.{ℕ, List};
-    ghost use Rattle.key_hash.specs.Placing.{Pairs, AreDistinct};
+    ghost use Rattle.key_hash.specs.Placing.{Pairs, AreDistinct, Finds};
 
     ghost Value = { List (List ℕ × ℕ) };
 
-    ghost view = { λ l. l.map.entries };
+    ghost view = { λ l. l.pairs.items };
 
-    ghost invariant = { λ l. AreDistinct l.map.entries };
+    ghost invariant = { λ l. AreDistinct l.pairs.items × Finds l.numbers l.pairs.items };
 }
 
 impl Listed {
@@ -55,7 +57,8 @@ impl Listed {
         ensures { IfOk result (λ listed. listed ≡ []) }
     {
         Ok(Listed {
-            map: IndexMap::new(alloc),
+            pairs: Vec::new(alloc),
+            numbers: BTreeMap::new(alloc),
         })
     }
 
@@ -67,10 +70,12 @@ impl Listed {
             × (self.new ≡ (if added then self.old ++ (key, hash) ∷ [] else self.old)))
             (λ _. self.new ≡ self.old) }
     {
-        if self.map.contains_key(&key) {
+        if self.numbers.contains_key(&key) {
             return Ok(false);
         }
-        self.map.insert(key, hash)?;
+        self.pairs.reserve(1)?;
+        self.numbers.insert(key, hash)?;
+        self.pairs.push_reserved((key, hash));
         Ok(true)
     }
 
@@ -79,7 +84,7 @@ impl Listed {
         ensures len { result ≡ length self.now }
         ensures distinct { AreDistinct self.now }
     {
-        self.map.len()
+        self.pairs.len()
     }
 
     /// Key `i`, which is below `len`, in the order of first appearance.
@@ -87,8 +92,7 @@ impl Listed {
         requires { i < length self.now }
         ensures { option_map (λ p. p.0) (slice_get self.now i) ≡ Some result }
     {
-        let (key, _) = self.map.get_index(i).unwrap();
-        *key
+        self.pairs[i].0
     }
 
     /// The number that is listed for key `i`, which is below `len`.
@@ -96,8 +100,7 @@ impl Listed {
         requires { i < length self.now }
         ensures { option_map (λ p. p.1) (slice_get self.now i) ≡ Some result }
     {
-        let (_, hash) = self.map.get_index(i).unwrap();
-        *hash
+        self.pairs[i].1
     }
 }
 
@@ -105,7 +108,7 @@ impl Placer for Listed {
     ghost listed = { λ l. l };
 
     fn hash(&self, key: &Key) -> u64 {
-        match self.map.get(key) {
+        match self.numbers.get(key) {
             Some(hash) => *hash,
             None => mix_key(key),
         }
