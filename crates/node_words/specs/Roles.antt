@@ -1,10 +1,10 @@
 -- What the word at an address is for.
 
-use Rattle.std.specs.Prelude.{ℕ, ◌+◌, ◌-◌, ◌*◌, ◌/◌, ◌%◌, ◌^◌, ◌==◌, ◌&&◌, nat_lt, nat_le, Option, Some, None, cond}
+use Rattle.std.specs.Prelude.{◌≡◌, ◌≢◌, ◌<◌, ◌≤◌, ℕ, ◌+◌, ◌-◌, ◌*◌, ◌/◌, ◌%◌, ◌^◌, ◌==◌, ◌&&◌, nat_lt, nat_le, Option, Some, None, cond}
 use Rattle.node_words.specs.declared.geometry.Geometry.{Geometry}
 use Rattle.node_words.specs.declared.region.Region.{Region}
 use Rattle.node_words.specs.declared.region.Region.TheVariants.{Next, Depth, Directory, Heap}
-use Rattle.node_words.specs.Addresses.{node_size, table_words, first_table, first_free}
+use Rattle.node_words.specs.Addresses.{node_size, node_at, table_words, directory_at, first_table, first_free}
 
 -- the role of a word: a table is named by its address, a main bucket by its number, a slot by its place
 pub data Role : Type 0 where
@@ -64,3 +64,10 @@ region_at g a =
     cond (a % node_size g == 0) (Next (a / node_size g))
     (cond (a == 1) Depth
     (cond (nat_lt a (2 + 2 ^ g.max_depth)) (Directory (a - 2)) Heap))
+
+-- where an address of a region stands; no address stands in two of them
+abbrev pub StandsIn : Geometry → ℕ → Region → Type 0
+StandsIn g a (Next k) = (k < g.nodes) × (a ≡ node_at g k)
+StandsIn g a Depth = a ≡ 1
+StandsIn g a (Directory j) = (j < 2 ^ g.max_depth) × (a ≡ directory_at j)
+StandsIn g a Heap = (2 + 2 ^ g.max_depth ≤ a) × ((k : ℕ) → a ≢ node_at g k)

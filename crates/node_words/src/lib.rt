@@ -4,7 +4,7 @@
 //! free word, the global depth, the directory and the first tables; every other node begins with its
 //! next free word. This crate says which sizes are allowed, at which address each of these words
 //! stands, what the role of an address is, and which number stands there before the first change.
-//! It stands on no other crate. Its rule is written in docs/FORMATS.md, "Node", "Table" and "Opening".
+//! It stands on no other crate of this repository. Its rule is written in docs/FORMATS.md, "Node", "Table" and "Opening".
 #![tactic(auto)]
 
 mod geometry;

@@ -1,5 +1,5 @@
 ghost use Rattle.std.specs.Prelude.{◌≡◌, ◌<◌};
-ghost use Rattle.node_words.specs.Roles.{region_at};
+ghost use Rattle.node_words.specs.Roles.{region_at, StandsIn};
 
 use crate::geometry::Geometry;
 
@@ -18,9 +18,18 @@ pub enum Region {
 }
 
 impl Geometry {
-    /// The region of an address below `words`.
-    #[tactic(auto, using(std::proofs::lemmas::Bool::Decides::nat_tests), unfolding(crate::specs::Roles::region_at, crate::specs::Addresses::node_size))]
+    /// The region of an address below `words`, which is the only one that it stands in.
     pub fn region_of(&self, at: u64) -> Region
+        requires { at < self.now.words }
+        ensures region { result ≡ region_at self.now at }
+        ensures stands { StandsIn self.now at result }
+    {
+        self.region_by_tests(at)
+    }
+
+    /// The region of an address, by tests of its number.
+    #[tactic(auto, using(std::proofs::lemmas::Bool::Decides::nat_tests), unfolding(crate::specs::Roles::region_at, crate::specs::Addresses::node_size))]
+    fn region_by_tests(&self, at: u64) -> Region
         requires { at < self.now.words }
         ensures { result ≡ region_at self.now at }
     {

@@ -1,7 +1,7 @@
 //! What the program reads from and writes to: a source of bytes, a sink of bytes, a gate before each call
 //! of a running client, and the two loops that read all there is and write all there is.
 //!
-//! It stands on nothing but std. A source and a sink say by their contracts which bytes went over and how
+//! It stands on no other crate of this repository. A source and a sink say by their contracts which bytes went over and how
 //! many faults there were, so that whoever reads or writes through them can say what was read, what was
 //! written and why it stopped. Its rule is written in docs/SCRIPTS.md, "Reading and writing".
 #![tactic(auto)]

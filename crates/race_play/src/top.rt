@@ -79,8 +79,9 @@ pub fn race<S: Source, K: Sink>(
     ensures cut_off { result.status ≡ 5 → Rose (K.faults sink.old) (K.faults sink.new) }
     ensures in_part { result.status ≡ 5 → PlaysInPart (S.left source.old) (S.left source.new) (K.taken sink.old) (K.taken sink.new) }
 
-    // There was no memory.
+    // There was no memory: what was read is a part of the source, or all of it up to the limit.
     ensures wanting { result.status ≡ 6 → sink.new ≡ sink.old }
+    ensures wanting_part { result.status ≡ 6 → TakesSome (S.left source.old) (S.left source.new) 4194305 }
 
     ensures source_counted { S.faults source.old ≤ S.faults source.new }
     ensures sink_counted { K.faults sink.old ≤ K.faults sink.new }

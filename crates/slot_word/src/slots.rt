@@ -9,9 +9,10 @@ pub enum Mark {
     Live,
     /// An insert has placed the block and not yet committed it.
     Pending,
-    /// A split has copied the slot into a child, which is not yet linked.
+    /// A split has copied the slot into the child, which is linked and fills. It answers for the key where the
+    /// same place of the parent was moved of this block.
     Copied,
-    /// The pair now stands in a child of the table.
+    /// The pair now stands at the same place of the child.
     Moved,
 }
 
