@@ -1,4 +1,5 @@
 """What the benches share: the program to measure, and the least time of its runs."""
+import functools
 import os
 import subprocess
 import sys
@@ -7,9 +8,14 @@ import time
 HERE = os.path.dirname(os.path.abspath(__file__))
 
 
+@functools.lru_cache(None)
 def program():
-    """The first word of the command line, else the program as `./race` builds it."""
-    return sys.argv[1] if len(sys.argv) > 1 else os.path.join(HERE, "../crates/race_cli/out/race_cli")
+    """The first word of the command line, else the program as `./race` builds it, which without words ends with status 2."""
+    if len(sys.argv) > 1:
+        return sys.argv[1]
+    if subprocess.run([os.path.join(HERE, "../race")], stdin=subprocess.DEVNULL).returncode != 2:
+        sys.exit("the program is not built: see above")
+    return os.path.join(HERE, "../crates/race_cli/out/race_cli")
 
 
 def least(text, status=0, wanted=None):

@@ -1,7 +1,7 @@
 //! The program `race`: its words name a command, which reads standard input and writes standard output.
 //!
-//! Main makes the real source and sink, calls `race`, prints the usage line at status 2 on standard error, and ends with the
-//! status. The words and the statuses are written in docs/SCRIPTS.md.
+//! Main makes the real source and sink, calls `race`, and ends with the status. At status 2 it prints the usage line on
+//! standard error, and at 4, 5 and 6 a line that says what failed. The words and the statuses are written in docs/SCRIPTS.md.
 #![tactic(auto)]
 
 use race_io::{ReaderSource, WriterSink};
@@ -14,6 +14,12 @@ const USAGE: &str = "usage: race replay";
 /// The words are no command.
 const NO_COMMAND: u8 = 2;
 
+/// The source failed.
+const INPUT_FAILED: u8 = 4;
+
+/// The sink failed.
+const OUTPUT_FAILED: u8 = 5;
+
 /// There was no memory.
 const NO_MEMORY: u8 = 6;
 
@@ -24,10 +30,21 @@ fn main(rt: HostRuntime) -> ExitCode {
         Err(fault) if fault.kind() == io::ErrorKind::InvalidData => NO_COMMAND,
         Err(_) => NO_MEMORY,
     };
-    if status == NO_COMMAND {
-        let _ = eprintln!(rt; "{USAGE}");
+    if let Some(line) = told_at(status) {
+        let _ = eprintln!(rt; "{line}");
     }
     ExitCode::from(status)
+}
+
+/// The line on standard error at this status, where there is one.
+fn told_at(status: u8) -> Option<&'static str> {
+    match status {
+        NO_COMMAND => Some(USAGE),
+        INPUT_FAILED => Some("race: standard input could not be read"),
+        OUTPUT_FAILED => Some("race: standard output could not be written"),
+        NO_MEMORY => Some("race: there was no memory"),
+        _ => None,
+    }
 }
 
 /// The status of the command that the program's words name.
