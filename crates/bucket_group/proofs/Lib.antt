@@ -1,3 +1,4 @@
 pub mod CandidateLaws
 pub mod ChoiceLaws
 pub mod ExitLaws
+pub mod PlaceRows

@@ -1,4 +1,4 @@
-ghost use Rattle.std.specs.Prelude.{◌≡◌, ◌≢◌, ◌*◌, ◌%◌, ◌<◌, ◌⊎◌, length, slice_get, Some};
+ghost use Rattle.std.specs.Prelude.{◌≡◌, ◌≢◌, ◌*◌, ◌%◌, ◌<◌, ◌⊎◌, length, take, slice_get, Some};
 
 use std::marker::Model;
 
@@ -72,5 +72,47 @@ impl Places {
             self.second.overflow,
         ];
         buckets[i / 7] + 1 + (i % 7) as u32
+    }
+
+    /// The places in a row, at the front of 28 numbers: a machine that asks for one after the other works them
+    /// out once. Each sum is written step by step, as the list of a bucket's slots counts.
+    #[tactic(auto, using(crate::proofs::PlaceRows::place_rows), unfolding(crate::specs::Buckets::places_of))]
+    pub fn row(&self) -> [u32; 28]
+        ensures { take (length self.now) result ≡ self.now }
+    {
+        let a = self.first.main;
+        let b = self.first.overflow;
+        let c = self.second.main;
+        let d = self.second.overflow;
+        [
+            a + 1,
+            a + 1 + 1,
+            a + 1 + 1 + 1,
+            a + 1 + 1 + 1 + 1,
+            a + 1 + 1 + 1 + 1 + 1,
+            a + 1 + 1 + 1 + 1 + 1 + 1,
+            a + 1 + 1 + 1 + 1 + 1 + 1 + 1,
+            b + 1,
+            b + 1 + 1,
+            b + 1 + 1 + 1,
+            b + 1 + 1 + 1 + 1,
+            b + 1 + 1 + 1 + 1 + 1,
+            b + 1 + 1 + 1 + 1 + 1 + 1,
+            b + 1 + 1 + 1 + 1 + 1 + 1 + 1,
+            c + 1,
+            c + 1 + 1,
+            c + 1 + 1 + 1,
+            c + 1 + 1 + 1 + 1,
+            c + 1 + 1 + 1 + 1 + 1,
+            c + 1 + 1 + 1 + 1 + 1 + 1,
+            c + 1 + 1 + 1 + 1 + 1 + 1 + 1,
+            d + 1,
+            d + 1 + 1,
+            d + 1 + 1 + 1,
+            d + 1 + 1 + 1 + 1,
+            d + 1 + 1 + 1 + 1 + 1,
+            d + 1 + 1 + 1 + 1 + 1 + 1,
+            d + 1 + 1 + 1 + 1 + 1 + 1 + 1,
+        ]
     }
 }
