@@ -1,3 +1,4 @@
+//! The candidates of a hash: two main buckets, each with its overflow bucket.
 ghost use Rattle.std.specs.Prelude.{ℕ, ◌≡◌, ◌<◌, ◌*◌, length, slice_index};
 ghost use Rattle.bucket_group.specs.Buckets.{candidates, first_bucket, main_place, overflow_place, neighbour, IsBucketStart, IsSlotPlace};
 

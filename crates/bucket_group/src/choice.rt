@@ -1,3 +1,4 @@
+//! The free candidate that an insert takes.
 ghost use Rattle.std.specs.Prelude.{ℕ, ◌≡◌, ◌<◌, ◌≢◌, true, false, length, slice_set, replicate, find, count_by, not, IfSome, IfNone};
 ghost use Rattle.bucket_group.specs.Choice.{is_free, choice, second_combined, emptier, IsFirstFree};
 

@@ -1,3 +1,4 @@
+//! The level at which a key leaves a table.
 ghost use Rattle.std.specs.Prelude.{ℕ, ◌≡◌, ◌<◌, ◌≤◌, IfSome, IfNone};
 ghost use Rattle.bucket_group.specs.ExitLevel.{bit_of, exit_level, IsLeastSet};
 

@@ -1,3 +1,4 @@
+//! The places of a key's candidates, as a value.
 ghost use Rattle.std.specs.Prelude.{◌≡◌, ◌≢◌, ◌*◌, ◌%◌, ◌<◌, ◌⊎◌, length, take, slice_get, Some};
 
 use std::marker::Model;

@@ -1,3 +1,4 @@
+//! The number of a key that is not listed.
 ghost use Rattle.std.specs.Prelude.{◌≡◌};
 ghost use Rattle.key_hash.specs.Mixing.{mix, hashed, mixed};
 

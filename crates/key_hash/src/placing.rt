@@ -1,3 +1,4 @@
+//! Placers: what gives each key its number.
 ghost use Rattle.std.specs.Prelude.{ℕ, ◌≡◌, ◌<◌, ◌++◌, ◌∷◌, [], List, length, not, MatchResult, IfOk, slice_get, Some, option_map, if◌then◌else◌};
 ghost use Rattle.key_hash.specs.Placing.{Pairs, AreDistinct, is_listed, placed};
 

@@ -1,3 +1,5 @@
+//! Numbers of keys that were worked out apart from this code.
+
 use super::*;
 use kv_block::Key;
 use std::alloc::AllocError;

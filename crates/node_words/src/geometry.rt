@@ -1,3 +1,4 @@
+//! The sizes of a memory, and the test of five numbers for being such.
 ghost use Rattle.std.specs.Prelude.{IsTrue, ◌≤◌, ◌≡◌, ◌%◌, ◌^◌, ◌+◌};
 ghost use Rattle.node_words.specs.Limits.{is_group_count, words_needed};
 

@@ -1,3 +1,4 @@
+//! The words with which a memory opens.
 ghost use Rattle.std.specs.Prelude.{◌≡◌, ◌<◌, ◌+◌, ◌*◌, ◌^◌, ◌-◌, ◌/◌};
 ghost use Rattle.node_words.specs.Addresses.{table_words, first_table};
 ghost use Rattle.node_words.specs.Roles.{offset_role, outer_role};

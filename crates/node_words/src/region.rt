@@ -1,3 +1,4 @@
+//! The parts of a memory, and the part in which an address stands.
 ghost use Rattle.std.specs.Prelude.{◌≡◌, ◌<◌};
 ghost use Rattle.node_words.specs.Roles.{region_at, StandsIn};
 

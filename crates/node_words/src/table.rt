@@ -1,3 +1,4 @@
+//! The addresses of a table's words.
 ghost use Rattle.std.specs.Prelude.{◌≡◌, ◌<◌, ◌^◌, ◌*◌};
 ghost use Rattle.node_words.specs.Addresses.{birth_at, header_at, lock_at, child_at, slot_at, bucket_header_at};
 

@@ -1,4 +1,5 @@
-// A list of bytes.
+//! A list of bytes.
+
 use std::alloc::{AllocError, Global};
 use std::marker::Model;
 

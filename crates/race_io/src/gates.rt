@@ -1,4 +1,4 @@
-// The gate before each call of a running client.
+//! The gate before each call of a running client.
 
 /// What a running client passes before each of its calls. A test can hold a client here.
 pub trait Gate: Sync {

@@ -1,4 +1,4 @@
-// Sources of bytes, and the loop that reads one to its end.
+//! Sources of bytes, and the loop that reads one to its end.
 ghost use Rattle.std.specs.Prelude.{◌≡◌, ℕ, ◌+◌, ◌-◌, ◌^◌, ◌<◌, ◌≤◌, ◌↔◌, List, length, take, drop, min, Option, Some, IfOk, OnErr, IsOk, IsErr, IsErrOf, Contains, is_err, if◌then◌else◌, [], ◌++◌};
 ghost use Rattle.std.specs.Io.KnownBytes.{Consumes, IsAtEnd, Keeps};
 ghost use Rattle.race_io.specs.Counts.{Rose};

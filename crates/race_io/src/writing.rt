@@ -1,4 +1,4 @@
-// Sinks of bytes, and the loop that writes all bytes to one.
+//! Sinks of bytes, and the loop that writes all bytes to one.
 ghost use Rattle.std.specs.Prelude.{◌≡◌, ℕ, ◌+◌, ◌-◌, ◌^◌, ◌<◌, ◌≤◌, ◌↔◌, List, length, take, drop, min, Option, Some, None, IfOk, OnOk, OnErr, IsOk, IsErr, Contains, ◌⊎◌, [], is_err, if◌then◌else◌, Ok};
 ghost use Rattle.std.specs.Io.KnownBytes.{Appends, Keeps};
 ghost use Rattle.race_io.specs.Counts.{Rose};

@@ -1,4 +1,4 @@
-// The play of a script of one client, and its report.
+//! The play of a script of one client, and its report.
 ghost use Rattle.std.specs.Prelude.{◌≡◌, ◌≤◌, ◌↔◌, ℕ, ◌∷◌, [], IsTrue, IfOk, OnOk, Some, None, Err, length, true};
 ghost use Rattle.map_model.specs.Machine.{is_change, is_quiet};
 ghost use Rattle.trace_script.specs.Gives.{told_of};

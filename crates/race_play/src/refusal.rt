@@ -1,4 +1,4 @@
-// The scripts that this player lacks, and the line that tells a refusal.
+//! The scripts that this player lacks, and the line that tells a refusal.
 ghost use Rattle.std.specs.Prelude.{◌≡◌, ◌≤◌, ◌&&◌, IfOk, length, true, flat_map};
 ghost use Rattle.std.specs.List.{list_all};
 ghost use Rattle.trace_script.specs.Gives.{told_of};

@@ -1,4 +1,4 @@
-// The words of a memory with one table, and the steps of a search and of an insert on them.
+//! The words of a memory with one table, and the steps of a search and of an insert on them.
 ghost use Rattle.std.specs.Prelude.{◌≡◌, ◌≢◌, ℕ, ◌+◌, ◌<◌, ◌≤◌, ◌^◌, ◌++◌, ◌∷◌, [], ◌==◌, List, length, drop, slice_index, slice_range, Option, Some, None, IfOk, if◌then◌else◌};
 ghost use Rattle.std.specs.Option.{option_map};
 ghost use Rattle.kv_block.specs.Packing.{Pair, IsPair, pair_of, packed, unpacked};

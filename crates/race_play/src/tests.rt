@@ -1,3 +1,5 @@
+//! The program's call with sources and sinks that fail.
+
 use crate::race;
 use race_io::{CleanSink, CleanSource, MemorySink, MemorySource};
 use std::alloc::{AllocError, Global};

@@ -1,4 +1,4 @@
-// The call that reads a script, plays it and writes its report.
+//! The call that reads a script, plays it and writes its report.
 ghost use Rattle.std.specs.Prelude.{◌≡◌, ℕ, ◌≤◌, ◌↔◌, [], ◌∷◌, IsTrue, codes, map, List, ◌⊎◌};
 ghost use Rattle.race_io.specs.Counts.{Rose};
 ghost use Rattle.race_io.specs.Transfer.{TakesSome};

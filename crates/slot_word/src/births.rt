@@ -1,4 +1,4 @@
-// Birth words.
+//! Birth words: how deep a table was made, for which suffix and from which table.
 ghost use Rattle.std.specs.Prelude.{◌≡◌, ◌^◌, ◌<◌, ◌≤◌, IfSome};
 ghost use Rattle.slot_word.specs.declared.births.Birth.{Birth};
 ghost use Rattle.slot_word.specs.Births.{IsBirth, birth_of, birth_word as word_of_birth};

@@ -1,4 +1,4 @@
-// Header words, of tables and of buckets.
+//! Header words, of tables and of buckets.
 ghost use Rattle.std.specs.Prelude.{◌≡◌, ◌≤◌, IfSome};
 ghost use Rattle.slot_word.specs.declared.heads.Head.{Head};
 ghost use Rattle.slot_word.specs.Heads.{IsHead, state_bits, state_of, head_of, head_word as word_of_head};

@@ -1,4 +1,4 @@
-// Slot words.
+//! Slot words: what stands in a slot of a table.
 ghost use Rattle.std.specs.Prelude.{◌≡◌, ◌%◌, ◌^◌, ◌<◌, ◌≤◌, ◌↔◌, IfSome, IsNone};
 ghost use Rattle.slot_word.specs.Slots.{IsSlot, mark_bits, mark_of, slot_of, slot_word};
 

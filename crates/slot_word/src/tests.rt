@@ -1,3 +1,5 @@
+//! Outside vectors of slot, header and birth words.
+
 use crate::{
     Birth, Head, Mark, Slot, State, birth_word, head_word, pack, read_birth, read_head, read_slot,
 };
