@@ -95,7 +95,7 @@ take-bytes_of n xs h l =
     let long : length (take (length xs) (bytes_of (words_of n xs))) ≡ length xs = length-take-le (length xs) (bytes_of (words_of n xs)) (omega arith) in
     ext_get_or 0 _ _ long (λ i b. get_or-take (length xs) (bytes_of (words_of n xs)) i 0 (omega arith) ∙ get_or-bytes_of n i xs h (omega arith))
 
-IsByteList-from_AreBytes : (xs : List ℕ) → AreBytes xs → IsByteList xs
+pub IsByteList-from_AreBytes : (xs : List ℕ) → AreBytes xs → IsByteList xs
 IsByteList-from_AreBytes xs h k = elim (cases_lt k (length xs)) [
   | inl low ↦ h k 0 low
   | inr high ↦ subst (λ (b : ℕ). b < 256) (sym (get_or_past xs k 0 high)) (omega arith)
@@ -126,6 +126,13 @@ block_length-packed k v h =
     ap block_length (first-packed k v)
     ∙ (λ i. 1 + words_for (key_length-first_word (length k) (length v) h i) + words_for (value_length-first_word (length k) (length v) h i))
     ∙ sym (length-packed k v)
+
+-- words that have the shape of a block are 2 to 137
+pub shape_least : (words : List ℕ) → HasShape words → 2 ≤ length words
+shape_least words h = let c = h.count in let k = h.key.least in omega arith
+
+pub shape_most : (words : List ℕ) → HasShape words → length words ≤ 137
+shape_most words h = let c = h.count in let k = h.key.most in let v = h.value in omega arith
 
 -- a block has 2 to 137 words
 pub packed_least : (p : Pair) → IsPair p → 2 ≤ length (packed p.key p.value)

@@ -1,4 +1,6 @@
 pub mod Bytes
 pub mod Filled
-pub mod RoomyList
 pub mod Packing
+pub mod Reading
+pub mod ChangeWords
+pub mod ValueWords

@@ -1,9 +1,9 @@
 //! Blocks: the words that hold a key with its value.
-ghost use Rattle.std.specs.Prelude.{◌≡◌, ◌≢◌, ℕ, ◌+◌, ◌*◌, ◌<◌, ◌≤◌, [], ◌∷◌, ◌++◌, take, length, slice_index, IfSome, IfNone};
+ghost use Rattle.std.specs.Prelude.{◌≡◌, ◌≢◌, ℕ, ◌+◌, ◌*◌, ◌<◌, ◌≤◌, [], ◌∷◌, ◌++◌, take, length, slice_index, IfSome, IfNone, Some, vec_len, vec_capacity};
 ghost use Rattle.std.specs.Option.{SomeIff, option_map};
 ghost use Rattle.kv_block.specs.Bytes.{IsKeyLength, IsValueLength};
 ghost use Rattle.kv_block.specs.Filled.{IsFilled};
-ghost use Rattle.kv_block.specs.Packing.{Pair, IsPair, HasShape, pair_of, words_for, words_of, bytes_of, key_length, value_length, packed, unpacked};
+ghost use Rattle.kv_block.specs.Packing.{Pair, IsPair, HasShape, pair_of, words_for, words_of, bytes_of, key_length, value_length, block_length, packed, unpacked};
 
 use crate::bytes::{KEY_BYTES, Key, VALUE_BYTES, Value};
 use byteorder::{ByteOrder, LittleEndian};
@@ -61,7 +61,7 @@ impl Block {
 }
 
 // How many words hold so many bytes.
-fn words_for(bytes: usize) -> usize
+pub(crate) fn words_for(bytes: usize) -> usize
     requires { bytes ≤ 1024 }
     ensures { result ≡ words_for bytes }
 {
@@ -89,9 +89,10 @@ fn put_words(words: &mut [u64; 137], at: usize, bytes: &[u8], count: usize)
     LittleEndian::read_u64_into(&bytes[..8 * count], &mut words[at..at + count]);
 }
 
-/// The block of a key with its value.
+/// The block of a key with its value, from which they are read back.
 pub fn write_block(key: &Key, value: &Value) -> Block
     ensures words { result ≡ packed key.now value.now }
+    ensures read { unpacked result ≡ Some (record { key = key.now; value = value.now }) }
     ensures pair { IsPair (record { key = key.now; value = value.now }) }
 {
     let (key_len, value_len) = (key.bytes().len(), value.bytes().len());
@@ -105,8 +106,55 @@ pub fn write_block(key: &Key, value: &Value) -> Block
     }
 }
 
+// Appends the first `count` words of the bytes.
+#[tactic(auto, using(crate::proofs::WordsOfBytes::one_more))]
+pub(crate) fn push_words(words: &mut Vec<u64>, bytes: &[u8], count: usize)
+    requires room { vec_len words.old + count ≤ vec_capacity words.old }
+    requires whole { 8 * count ≤ length bytes.now }
+    ensures items { words.new.items ≡ words.old.items ++ words_of count bytes.now }
+    ensures capacity { vec_capacity words.new ≡ vec_capacity words.old }
+    ensures len { vec_len words.new ≡ vec_len words.old + count }
+{
+    for i in 0..count {
+        words.push_reserved(LittleEndian::read_u64(&bytes[8 * i..8 * i + 8]));
+    }
+}
+
+/// How many words a block has, by its first word.
+pub fn block_len(first: u64) -> u64
+    ensures { result ≡ block_length first }
+{
+    1 + (first % 65536 + 7) / 8 + (first / 65536 + 7) / 8
+}
+
+/// Appends the words of the block of a key with its value, for which there is room.
+pub fn push_block(words: &mut Vec<u64>, key: &Key, value: &Value)
+    requires room { vec_len words.old + 137 ≤ vec_capacity words.old }
+    ensures items { words.new.items ≡ words.old.items ++ packed key.now value.now }
+    ensures capacity { vec_capacity words.old ≤ vec_capacity words.new }
+    ensures pair { IsPair (record { key = key.now; value = value.now }) }
+    ensures most { length (packed key.now value.now) ≤ 137 }
+{
+    let (key_len, value_len) = (key.bytes().len(), value.bytes().len());
+    words.push_reserved(key_len as u64 + 65536 * value_len as u64);
+    push_words(words, key.padded(), words_for(key_len));
+    push_words(words, value.padded(), words_for(value_len));
+}
+
+/// Appends a word, and the words of the block of a key with its value, for which there is room.
+pub fn push_marked_block(words: &mut Vec<u64>, mark: u64, key: &Key, value: &Value)
+    requires room { vec_len words.old + 138 ≤ vec_capacity words.old }
+    ensures items { words.new.items ≡ words.old.items ++ mark ∷ packed key.now value.now }
+    ensures capacity { vec_capacity words.old ≤ vec_capacity words.new }
+    ensures pair { IsPair (record { key = key.now; value = value.now }) }
+    ensures most { length (packed key.now value.now) ≤ 137 }
+{
+    words.push_reserved(mark);
+    push_block(words, key, value);
+}
+
 // The key of the first `len` bytes of the words.
-fn key_in(words: &[u64], len: usize) -> Option<Key>
+pub(crate) fn key_in(words: &[u64], len: usize) -> Option<Key>
     requires words { length words.now ≤ 8 }
     requires len { len ≤ 8 * length words.now }
     ensures { SomeIff result (IsKeyLength len) (take len (bytes_of words.now)) }
@@ -117,7 +165,7 @@ fn key_in(words: &[u64], len: usize) -> Option<Key>
 }
 
 // The value of the first `len` bytes of the words.
-fn value_in(words: &[u64], len: usize) -> Option<Value>
+pub(crate) fn value_in(words: &[u64], len: usize) -> Option<Value>
     requires words { length words.now ≤ 128 }
     requires len { len ≤ 8 * length words.now }
     ensures { SomeIff result (IsValueLength len) (take len (bytes_of words.now)) }
@@ -128,7 +176,7 @@ fn value_in(words: &[u64], len: usize) -> Option<Value>
 }
 
 // How many bytes the key and the value have, where the words have the shape of a block.
-fn lengths_in(words: &[u64]) -> Option<(usize, usize)>
+pub(crate) fn lengths_in(words: &[u64]) -> Option<(usize, usize)>
     ensures { SomeIff result (HasShape words.now)
         (key_length (slice_index words.now 0), value_length (slice_index words.now 0)) }
 {

@@ -1,5 +1,5 @@
 //! Keys and values: bytes of a bounded number, in fixed arrays.
-ghost use Rattle.std.specs.Prelude.{◌≡◌, ℕ, ◌≤◌, length, refl, Some};
+ghost use Rattle.std.specs.Prelude.{◌≡◌, ℕ, ◌≤◌, [], length, refl, Some};
 ghost use Rattle.std.specs.Option.{SomeIff};
 ghost use Rattle.std.specs.Cmp.Lexicographic.{nat_list_eq_equiv, nat_list_cmp_total, texts_ties, texts_po};
 ghost use Rattle.std.specs.Cmp.{partial_equiv_from_equiv};
@@ -167,6 +167,16 @@ impl Value {
             bytes: padded(bytes),
             len: bytes.len() as u16,
         })
+    }
+
+    /// The value of no byte.
+    pub fn empty() -> Value
+        ensures { result ≡ [] }
+    {
+        match Value::from_bytes(&[]) {
+            Some(value) => value,
+            None => unreachable!(),
+        }
     }
 
     /// The value's bytes.

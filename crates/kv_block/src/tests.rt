@@ -41,6 +41,6 @@ fn a_list_grows(rt: HostRuntime) -> Result<(), Fail> {
     changes.reserve()?;
     changes.push(Change { key, value: None })?;
     assert_eq!(rt; changes.len(), 1);
-    assert!(rt; *changes.get(0) == Change { key, value: None });
+    assert!(rt; changes.get(0) == Change { key, value: None });
     Ok(())
 }

@@ -3,6 +3,9 @@ pub mod Kept
 pub mod Filtered
 pub mod Bridge
 pub mod Added
+pub mod CallWords
+pub mod ReplyWords
+pub mod RecordWords
 pub mod Points
 pub mod AnyOrder
 pub mod CellAndOrder

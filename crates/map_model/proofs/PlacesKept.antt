@@ -1,9 +1,9 @@
 -- The map of places after a change more.
-use Rattle.std.proofs.Common.{◌≡◌, ℕ, zero, suc, ◌-◌, ◌<◌, Bool, true, false, cond, List, [], ◌∷◌, ◌++◌, length, get_or, Some, None, Result, Ok, Err, Vec, refl, sym, ap, ◌∙◌, arith, rules}
+use Rattle.std.proofs.Common.{◌≡◌, ℕ, zero, suc, ◌-◌, Bool, true, false, cond, List, [], ◌∷◌, ◌++◌, length, get_or, Some, None, Result, Ok, Err, Vec, refl, sym, ap, ◌∙◌, arith, rules}
 use Rattle.std.proofs.lemmas.Option.{slice_get_within}
 use Rattle.std.specs.Global.{Global}
 use Rattle.std.specs.Result.{IsOk, OnOk, OnErr}
-use Rattle.std.specs.Option.{option_map_or, option_and_then}
+use Rattle.std.specs.Option.{option_map_or}
 use Rattle.std.specs.List.{slice_get}
 use Rattle.std.specs.BTreeMap as tree
 use Rattle.std.specs.BTreeMap.{BTreeMap, is_at}
@@ -12,15 +12,6 @@ use Rattle.kv_block.specs.Bytes.{key_cmp, key_eq}
 use Rattle.kv_block.proofs.Keys.{key_ties, key_eq-is, key_eq_equiv}
 use Rattle.map_model.specs.Places.{places_at, value_of, latest}
 use Rattle.map_model.proofs.FirstMoment.{latest_last}
-
--- an element that was read, as an option
-slice_get_read : (C : List Change) (p : ℕ) (r : Change) → p < length C → r ≡ get_or C p r → slice_get C p ≡ Some r
-slice_get_read [] p r less is = absurd (omega arith)
-slice_get_read (c ∷ C) zero r less is = ap Some (sym is)
-slice_get_read (c ∷ C) (suc p) r less is = slice_get_read C p r (omega arith) is
-
-pub value_of_read : (C : List Change) (p : ℕ) (r : Change) → p < length C → r ≡ get_or C p r → r.value ≡ value_of C p
-value_of_read C p r less is = sym (ap (option_and_then (λ c. c.value)) (slice_get_read C p r less is))
 
 -- the last of the places
 slice_get_or : (ps : List ℕ) (i p : ℕ) → Some p ≡ slice_get ps i → p ≡ get_or ps i 0

@@ -1,5 +1,8 @@
 pub mod Contents
 pub mod Machine
+pub mod CallWords
+pub mod ReplyWords
+pub mod RecordWords
 pub mod History
 pub mod Laws
 pub mod Moments

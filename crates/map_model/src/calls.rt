@@ -1,8 +1,7 @@
 //! Calls of the map and what they are answered, and lists of calls.
 use crate::nexts::Nexts;
+use item_list::PackedList;
 use kv_block::{Change, Key, Value};
-use std::alloc::{AllocError, Global};
-use std::marker::Model;
 
 /// What a client asks: to add, find, replace or remove a key's pair, or to split the table where the key's chain ends.
 #[derive(Clone, Copy, Debug, PartialEq, Eq)]
@@ -116,81 +115,5 @@ impl Reply {
     }
 }
 
-/// A list of calls. A clause sees its items, and its room: how many more fit before memory is asked for.
-#[derive(Debug, Drop)]
-pub struct Calls {
-    calls: Vec<Call>,
-}
-
-impl Model for Calls {
-    ghost use Rattle.std.specs.Prelude.{◌-◌, vec_len, vec_capacity};
-    ghost use Rattle.kv_block.specs.RoomyList.{RoomyList};
-    ghost use Rattle.map_model.specs.declared.calls.Call.{Call};
-
-    ghost Value = { RoomyList Call };
-
-    ghost view = { λ list. record { items = list.calls.items; room = vec_capacity list.calls - vec_len list.calls } };
-}
-
-impl Calls {
-    ghost use Rattle.std.specs.Prelude.{◌≡◌, ◌<◌, ◌≤◌, ◌↔◌, IsTrue, Some, [], ◌∷◌, ◌++◌, length, slice_get, OnOk, OnErr, IsOk};
-
-    /// The list with no call.
-    pub fn new(alloc: Global) -> Calls
-        ensures { result.items ≡ [] }
-    {
-        Calls {
-            calls: Vec::new(alloc),
-        }
-    }
-
-    /// How many calls there are.
-    pub fn len(&self) -> usize
-        ensures { result ≡ length self.now.items }
-    {
-        self.calls.len()
-    }
-
-    /// Whether there is no call.
-    pub fn is_empty(&self) -> bool
-        ensures { IsTrue result ↔ (self.now.items ≡ []) }
-    {
-        self.calls.is_empty()
-    }
-
-    /// The call at place `i`, counted from 0.
-    pub fn get(&self, i: usize) -> &Call
-        requires { i < length self.now.items }
-        ensures { slice_get self.now.items i ≡ Some result.now }
-    {
-        &self.calls[i]
-    }
-
-    /// Makes room for at least one more call. A refusal changes nothing.
-    pub fn reserve(&mut self) -> Result<(), AllocError>
-        ensures items { self.new.items ≡ self.old.items }
-        ensures room { OnOk result (1 ≤ self.new.room) }
-        ensures refused { OnErr result (self.new ≡ self.old) }
-        ensures succeeds { 1 ≤ self.old.room → IsOk result }
-    {
-        self.calls.reserve(1)
-    }
-
-    /// Appends the call. It answers Ok where there is room for one more. A refusal leaves the list as it was.
-    pub fn push(&mut self, call: Call) -> Result<(), AllocError>
-        ensures appended { OnOk result (self.new.items ≡ self.old.items ++ call ∷ []) }
-        ensures refused { OnErr result (self.new.items ≡ self.old.items) }
-        ensures succeeds { 1 ≤ self.old.room → IsOk result }
-    {
-        self.calls.reserve(1)?;
-        self.calls.push_reserved(call);
-        Ok(())
-    }
-
-    /// The calls, in order.
-    pub fn as_slice(&self) -> &[Call]
-        ensures { result.now ≡ self.now.items }
-    {
-        self.calls.as_slice()
-    }
-}
+/// A list of calls, each kept as one word more than the block of its key and value.
+pub type Calls = PackedList<Call>;

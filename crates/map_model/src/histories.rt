@@ -17,7 +17,8 @@ use std::collections::BTreeMap;
 pub fn history(alloc: Global, changes: &Changes, records: &Records) -> Result<Records, AllocError>
     ensures { IfOk result (λ all. all.items ≡ history changes.now.items records.now.items) }
 {
-    Ok(Records::of(ordered(alloc, changes.as_slice(), records.as_slice())?))
+    let (changes, records) = (changes.unpacked(alloc)?, records.unpacked(alloc)?);
+    Records::of(alloc, &ordered(alloc, &changes, &records)?)
 }
 
 // The same, of slices.
@@ -127,6 +128,7 @@ fn replays(alloc: Global, history: &[Record]) -> Result<bool, AllocError>
 pub fn is_legal(alloc: Global, changes: &Changes, records: &Records) -> Result<bool, AllocError>
     ensures { IfOk result (λ yes. IsTrue yes ↔ IsLegal changes.now.items records.now.items) }
 {
+    let (changes, records) = (changes.unpacked(alloc)?, records.unpacked(alloc)?);
     let (changes, records) = (changes.as_slice(), records.as_slice());
     if !are_bounds_kept(changes.len() as u64, records) || !are_in_order(alloc, records)? {
         return Ok(false);

@@ -3,9 +3,10 @@
 //! Calls and replies, the map machine that answers a call, records of answered calls with their bounds and points,
 //! the history that records and changes make, and whether it is legal. Clients, words and schedules are no part of it:
 //! a record says what a client asked, what it was answered and which changes it had seen.
-//! The crate stands on `kv_block`, which has keys, values and changes. The rules stand in docs/DEFINITIONS.md.
+//! The crate stands on `kv_block`, which has keys, values and changes, and on `item_list`. The rules stand in docs/DEFINITIONS.md.
 #![tactic(auto)]
 
+mod call_words;
 pub mod calls;
 pub mod histories;
 pub mod laws;
@@ -13,6 +14,7 @@ pub mod machine;
 pub mod nexts;
 pub mod plans;
 pub mod records;
+mod reply_words;
 pub mod timeline;
 
 pub use calls::{Call, Calls, Reply};

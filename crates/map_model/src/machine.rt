@@ -126,8 +126,8 @@ pub fn map_at(alloc: Global, changes: &Changes, n: u64) -> Result<MapMachine, Al
     ensures { IfOk result (λ m. m ≡ map_at changes.now.items n) }
 {
     let mut map = MapMachine::new(alloc);
-    for change in &changes.as_slice()[..n as usize] {
-        map.apply(change)?;
+    for i in 0..n as usize {
+        map.apply(&changes.get(i))?;
     }
     Ok(map)
 }

@@ -1,7 +1,8 @@
 //! The next free words of the nodes, as a reply tells them.
-ghost use Rattle.std.specs.Prelude.{◌≡◌, ◌<◌, ◌≤◌, [], ◌∷◌, ◌++◌, length, slice_index, nat_eq};
+ghost use Rattle.std.specs.Prelude.{◌≡◌, ◌+◌, ◌<◌, ◌≤◌, [], ◌∷◌, ◌++◌, length, slice_index, nat_eq, vec_len, vec_capacity};
 ghost use Rattle.std.specs.Cmp.{partial_equiv_from_equiv};
 ghost use Rattle.std.specs.Cmp.Lexicographic.{pointwise, nat_list_eq_equiv};
+ghost use Rattle.map_model.specs.ReplyWords.{nexts_told};
 
 use std::marker::Model;
 
@@ -66,6 +67,33 @@ impl Nexts {
         ensures { result ≡ slice_index self.now i }
     {
         self.numbers()[i]
+    }
+
+    // Appends the numbers to words in which there is room for them.
+    pub(crate) fn push_to(&self, words: &mut Vec<u64>)
+        requires room { vec_len words.old + 8 ≤ vec_capacity words.old }
+        ensures items { words.new.items ≡ words.old.items ++ self.now }
+        ensures capacity { vec_capacity words.old ≤ vec_capacity words.new }
+        ensures least { 1 ≤ length self.now }
+        ensures most { length self.now ≤ 8 }
+    {
+        for i in 0..self.len() {
+            words.push_reserved(self.get(i));
+        }
+    }
+
+    // The list of these words, where they are 1 to 8, else of one 0.
+    pub(crate) fn of_words(words: &[u64]) -> Nexts
+        ensures { result ≡ nexts_told words.now }
+    {
+        if words.is_empty() || words.len() > 8 {
+            return Nexts::one(0);
+        }
+        let mut next = Nexts::one(words[0]);
+        for i in 1..words.len() {
+            next = next.with(words[i]);
+        }
+        next
     }
 
     // The numbers, in order.

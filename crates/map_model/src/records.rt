@@ -1,7 +1,11 @@
 //! Records of answered calls, and lists of them.
+ghost use Rattle.std.specs.Prelude.{◌≡◌};
+ghost use Rattle.map_model.specs.RecordWords.{call_count};
+
+use crate::call_words::push_call;
 use crate::calls::{Call, Reply};
-use std::alloc::{AllocError, Global};
-use std::marker::Model;
+use item_list::{Pack, PackedList, number_at, word_at, words_from, words_to};
+use kv_block::block_len;
 
 /// An answered call of a client, with what the client had seen of the map's changes.
 #[derive(Clone, Copy, Debug, PartialEq, Eq)]
@@ -48,105 +52,49 @@ impl Record {
     }
 }
 
-/// A list of records. A clause sees its items, and its room: how many more fit before memory is asked for.
-#[derive(Debug, Drop)]
-pub struct Records {
-    records: Vec<Record>,
-}
+/// A list of records, each kept as its numbers, its call's words and its reply's.
+pub type Records = PackedList<Record>;
 
-impl Model for Records {
-    ghost use Rattle.std.specs.Prelude.{◌-◌, vec_len, vec_capacity};
-    ghost use Rattle.kv_block.specs.RoomyList.{RoomyList};
-    ghost use Rattle.map_model.specs.declared.records.Record.{Record};
+impl Pack for Record {
+    ghost use Rattle.map_model.specs.RecordWords.{record_words, record_told};
 
-    ghost Value = { RoomyList Record };
+    const MOST: usize = 273;
 
-    ghost view = { λ list. record { items = list.records.items; room = vec_capacity list.records - vec_len list.records } };
-}
+    ghost MOST = { 273 };
 
-impl Records {
-    ghost use Rattle.std.specs.Prelude.{◌≡◌, ◌<◌, ◌≤◌, ◌↔◌, IsTrue, Some, [], ◌∷◌, ◌++◌, length, slice_get, OnOk, OnErr, IsOk};
+    ghost packed = { record_words };
 
-    /// The list with no record.
-    pub fn new(alloc: Global) -> Records
-        ensures { result.items ≡ [] }
-    {
-        Records {
-            records: Vec::new(alloc),
+    ghost told = { record_told };
+
+    #[tactic(auto, using(crate::proofs::RecordWords::told_records))]
+    fn pack(&self, words: &mut Vec<u64>) {
+        words.push_reserved(self.client as u64);
+        words.push_reserved(self.number as u64);
+        words.push_reserved(self.lo);
+        words.push_reserved(self.hi);
+        words.push_reserved(self.point);
+        push_call(words, &self.call);
+        self.reply.pack(words);
+    }
+
+    fn unpack(words: &[u64]) -> Record {
+        let rest = words_from(words, 5);
+        let count = call_count(rest);
+        Record {
+            client: number_at(words, 0),
+            number: number_at(words, 1),
+            call: Call::unpack(words_to(rest, count)),
+            reply: Reply::unpack(words_from(rest, count)),
+            lo: word_at(words, 2),
+            hi: word_at(words, 3),
+            point: word_at(words, 4),
         }
     }
+}
 
-    // The list of these records.
-    pub(crate) fn of(records: Vec<Record>) -> Records
-        ensures { result.items ≡ records.items }
-    {
-        Records { records }
-    }
-
-    /// How many records there are.
-    pub fn len(&self) -> usize
-        ensures { result ≡ length self.now.items }
-    {
-        self.records.len()
-    }
-
-    /// Whether there is no record.
-    pub fn is_empty(&self) -> bool
-        ensures { IsTrue result ↔ (self.now.items ≡ []) }
-    {
-        self.records.is_empty()
-    }
-
-    /// The record at place `i`, counted from 0.
-    pub fn get(&self, i: usize) -> &Record
-        requires { i < length self.now.items }
-        ensures { slice_get self.now.items i ≡ Some result.now }
-    {
-        &self.records[i]
-    }
-
-    /// Makes room for at least one more record. A refusal changes nothing.
-    pub fn reserve(&mut self) -> Result<(), AllocError>
-        ensures items { self.new.items ≡ self.old.items }
-        ensures room { OnOk result (1 ≤ self.new.room) }
-        ensures refused { OnErr result (self.new ≡ self.old) }
-        ensures succeeds { 1 ≤ self.old.room → IsOk result }
-    {
-        self.records.reserve(1)
-    }
-
-    /// Appends the record. It answers Ok where there is room for one more. A refusal leaves the list as it was.
-    pub fn push(&mut self, answered: Record) -> Result<(), AllocError>
-        ensures appended { OnOk result (self.new.items ≡ self.old.items ++ answered ∷ []) }
-        ensures refused { OnErr result (self.new.items ≡ self.old.items) }
-        ensures succeeds { 1 ≤ self.old.room → IsOk result }
-    {
-        let Record {
-            client,
-            number,
-            call,
-            reply,
-            lo,
-            hi,
-            point,
-        } = answered;
-        self.records.reserve(1)?;
-        self.records.push_reserved(Record {
-            client,
-            number,
-            call,
-            reply,
-            lo,
-            hi,
-            point,
-        });
-        Ok(())
-    }
-
-    /// The records, in order.
-    pub fn as_slice(&self) -> &[Record]
-        ensures { result.now ≡ self.now.items }
-    {
-        self.records.as_slice()
-    }
+// How many words the call has that these begin with.
+fn call_count(words: &[u64]) -> usize
+    ensures { result ≡ call_count words.now }
+{
+    1 + block_len(word_at(words, 1)) as usize
 }

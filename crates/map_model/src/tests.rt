@@ -176,8 +176,8 @@ fn quiet_calls_stand_before_the_change_of_their_point(rt: HostRuntime) -> Result
     assert_eq!(rt; ordered.len(), 2);
     assert!(rt; ordered.get(0).reply == Reply::Missing);
     let mut timeline = Timeline::new(alloc);
-    for change in changes.as_slice() {
-        timeline.push(alloc, change)?;
+    for change in changes.iter() {
+        timeline.push(alloc, &change)?;
     }
     assert_eq!(rt; timeline.len(), 6);
     let search = Call::Search { key: k };

@@ -52,10 +52,10 @@ impl Timeline {
     }
 
     /// The changes, in order.
-    pub fn changes(&self) -> &[Change]
-        ensures { result.now ≡ self.now }
+    pub fn changes(&self) -> &Changes
+        ensures { result.now.items ≡ self.now }
     {
-        self.changes.as_slice()
+        &self.changes
     }
 
     /// Appends the change. A refusal leaves the timeline as it was.
@@ -80,7 +80,7 @@ impl Timeline {
             Some(places) => places.as_slice(),
             None => &[],
         };
-        first_of(self.changes.as_slice(), places, lo as usize, call, reply) as u64
+        first_of(&self.changes, places, lo as usize, call, reply) as u64
     }
 }
 
@@ -114,17 +114,17 @@ fn count_below(places: &[usize], lo: usize) -> usize
 }
 
 // What the change at a place leaves of its key.
-fn value_at(changes: &[Change], place: usize) -> Option<Value>
-    requires { place < length changes.now }
-    ensures { result ≡ value_of changes.now place }
+fn value_at(changes: &Changes, place: usize) -> Option<Value>
+    requires { place < length changes.now.items }
+    ensures { result ≡ value_of changes.now.items place }
 {
-    changes[place].value
+    changes.get(place).value
 }
 
 // What a key has after its changes at these places.
-fn value_after(changes: &[Change], places: &[usize]) -> Option<Value>
-    requires { AllByRecursion (λ p. p < length changes.now) places.now }
-    ensures { result ≡ latest changes.now None places.now }
+fn value_after(changes: &Changes, places: &[usize]) -> Option<Value>
+    requires { AllByRecursion (λ p. p < length changes.now.items) places.now }
+    ensures { result ≡ latest changes.now.items None places.now }
 {
     match places.last() {
         Some(place) => value_at(changes, *place),
@@ -142,17 +142,18 @@ fn gives(call: &Call, value: Option<Value>, reply: &Reply) -> bool
 // The least moment from `lo` on at which the map gives the reply: the key has `value` up to its change at the first of
 // the places, and so on.
 fn first_from(
-    changes: &[Change],
+    changes: &Changes,
     places: &[usize],
     value: Option<Value>,
     lo: usize,
     call: &Call,
     reply: &Reply,
 ) -> usize
-    requires lo { lo ≤ length changes.now }
-    requires steady { Steady changes.now (key_of call.now) value lo places.now }
-    ensures { IsFirst changes.now lo call.now reply.now result }
+    requires lo { lo ≤ length changes.now.items }
+    requires steady { Steady changes.now.items (key_of call.now) value lo places.now }
+    ensures { IsFirst changes.now.items lo call.now reply.now result }
 {
+    let count = changes.len();
     let mut value = value;
     let mut start = lo;
     for place in places {
@@ -165,15 +166,15 @@ fn first_from(
     if gives(call, value, reply) {
         start
     } else {
-        changes.len() + 1
+        count + 1
     }
 }
 
 // The same, of all places of the key.
-fn first_of(changes: &[Change], places: &[usize], lo: usize, call: &Call, reply: &Reply) -> usize
-    requires lo { lo ≤ length changes.now }
-    requires placed { places.now ≡ places_from (key_of call.now) 0 changes.now }
-    ensures { IsFirst changes.now lo call.now reply.now result }
+fn first_of(changes: &Changes, places: &[usize], lo: usize, call: &Call, reply: &Reply) -> usize
+    requires lo { lo ≤ length changes.now.items }
+    requires placed { places.now ≡ places_from (key_of call.now) 0 changes.now.items }
+    ensures { IsFirst changes.now.items lo call.now reply.now result }
 {
     let from = count_below(places, lo);
     let value = value_after(changes, &places[..from]);

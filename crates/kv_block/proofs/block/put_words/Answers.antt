@@ -1,7 +1,7 @@
 use Rattle.std.proofs.Common.{ℕ, ◌+◌, ◌*◌, ◌-◌, ◌≡◌, ◌++◌, length, take, ap, ◌∙◌, arith}
 use Rattle.std.proofs.lemmas.Slice.{take-put_mid}
 use Rattle.kv_block.specs.Packing.{words_of}
-use Rattle.kv_block.proofs.Words.{IsFilled-put, words_of_read, words_of-take}
+use Rattle.kv_block.proofs.WordsOfBytes.{IsFilled-put, words_of_read, words_of-take}
 use Rattle.kv_block.proofs.block.put_words.Goals as goal
 
 pub returns-clause-filled : goal.returns-clause-filled

@@ -1,6 +1,7 @@
-use Rattle.std.proofs.Common.{refl}
-use Rattle.kv_block.specs.Packing.{packed}
-use Rattle.kv_block.proofs.Words.{words_of-filled}
+use Rattle.std.proofs.Common.{refl, ap, ◌∙◌}
+use Rattle.kv_block.specs.Packing.{packed, unpacked}
+use Rattle.kv_block.proofs.Packed.{unpacked-packed}
+use Rattle.kv_block.proofs.WordsOfBytes.{words_of-filled}
 use Rattle.kv_block.proofs.block.write_block.Goals as goal
 
 pub returns-clause-words : goal.returns-clause-words
@@ -21,3 +22,9 @@ returns-clause-words c =
       c.bytes.ensures.value,
       c.bytes-2.ensures.value,
     ) refl
+
+pub returns-clause-read : goal.returns-clause-read
+returns-clause-read c =
+    ap unpacked (returns-clause-words c)
+    ∙ unpacked-packed (record { key = c.args.key.now; value = c.args.value.now })
+    (record { key_length = c.bytes.ensures.len; value_length = c.bytes-2.ensures.len; key_bytes = c.bytes.ensures.bytes; value_bytes = c.bytes-2.ensures.bytes })

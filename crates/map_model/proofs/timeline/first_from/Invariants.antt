@@ -7,7 +7,7 @@ use Rattle.map_model.proofs.timeline.first_from.Given as goal
 abbrev pub invariant-loop-place : goal.invariant-loop-place
 invariant-loop-place l = record {
   low : l.lo ≤ l.start;
-  high : l.start ≤ length l.changes;
-  steady : Steady l.changes (key_of l.call) l.value l.start (drop l.place-index l.places);
-  before : (n : ℕ) → l.lo ≤ n → n < l.start → reply_of (map_at l.changes n) l.call ≢ Some l.reply;
+  high : l.start ≤ length l.changes.items;
+  steady : Steady l.changes.items (key_of l.call) l.value l.start (drop l.place-index l.places);
+  before : (n : ℕ) → l.lo ≤ n → n < l.start → reply_of (map_at l.changes.items n) l.call ≢ Some l.reply;
 }

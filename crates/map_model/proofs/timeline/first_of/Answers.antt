@@ -10,7 +10,7 @@ use Rattle.map_model.proofs.timeline.first_of.Goals as goal
 
 pub value_after-value-requires : goal.value_after-value-requires
 value_after-value-requires c =
-    let C = c.args.changes.now in
+    let C = c.args.changes.now.items in
     let lo = c.args.lo in
     let key = key_of c.args.call.now in
     let xs = places_from key 0 (take lo C) in
@@ -23,7 +23,7 @@ value_after-value-requires c =
 
 pub first_from-requires-clause-steady : goal.first_from-requires-clause-steady
 first_from-requires-clause-steady c =
-    let C = c.args.changes.now in
+    let C = c.args.changes.now.items in
     let lo = c.args.lo in
     let key = key_of c.args.call.now in
     let xs = places_from key 0 (take lo C) in

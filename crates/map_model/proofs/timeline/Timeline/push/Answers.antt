@@ -10,7 +10,7 @@ invariant_of-self-2 c = λ key.
     let items = c.self.inside.changes.items in
     let change = c.args.change.now in
     let was = c.self.invariant key in
-    let n : c.len-place.result ≡ length items = c.len-place.ensures ∙ ap length c.in_ok-reserve.ensures.items in
+    let n : c.len-place.result ≡ length items = c.len-place.ensures.value ∙ ap length c.in_ok-reserve.ensures.items in
     let pushed : c.push.new.self.items ≡ items ++ change ∷ [] =
     OnOk_gives c.push.result _ (c.push.ensures.succeeds c.in_ok-reserve.ensures.room) c.push.ensures.appended ∙ ap (λ cs. cs ++ change ∷ []) c.in_ok-reserve.ensures.items in
     c.in_ok-add_place.ensures.ok key

@@ -74,3 +74,25 @@ IsFilled-put n at k xs ys h e l =
       rest = ap (filled n) front ∙ append_assoc (take at xs) ys (replicate (n - length (take at xs ++ ys)) 0)
           ∙ ap (λ (m : ℕ). take at xs ++ (ys ++ replicate m 0)) (omega (arith, d)) ∙ sym all;
     }
+
+words_of-suc : (n : ℕ) (xs : List ℕ) → words_of (suc n) xs ≡ words_of n xs ++ little_number 8 (drop (8 * n) xs) ∷ []
+words_of-suc zero xs = refl
+words_of-suc (suc n) xs =
+    let e : 8 + 8 * n ≡ 8 * suc n = omega arith in
+    let d : drop (8 * n) (drop 8 xs) ≡ drop (8 * suc n) xs = drop-drop (8 * n) 8 xs ∙ ap (λ (m : ℕ). drop m xs) e in
+    ap (λ (ws : List ℕ). little_number 8 xs ∷ ws) (words_of-suc n (drop 8 xs) ∙ ap (λ (ys : List ℕ). words_of n (drop 8 xs) ++ little_number 8 ys ∷ []) d)
+
+pub words_of-next : (n : ℕ) (xs : List ℕ) → words_of (n + 1) xs ≡ words_of n xs ++ little_number 8 (drop (8 * n) xs) ∷ []
+words_of-next n xs = let e : n + 1 ≡ suc n = omega arith in ap (λ (m : ℕ). words_of m xs) e ∙ words_of-suc n xs
+
+pub number-part : (m : ℕ) (xs : List ℕ) → m ≡ 8 → little_number 8 (take m xs) ≡ little_number 8 xs
+number-part m xs e = ap (λ (j : ℕ). little_number 8 (take j xs)) e ∙ little_from-same 8 0 (take 8 xs) xs (λ k l. get_or-take 8 xs k 0 l)
+
+-- a number, and words behind it
+pub two : (o : List ℕ) (f : ℕ) (a : List ℕ) → (o ++ f ∷ []) ++ a ≡ o ++ (f ∷ a)
+two o f a = append_assoc o (f ∷ []) a
+
+pub three : (o : List ℕ) (f : ℕ) (a b : List ℕ) → ((o ++ f ∷ []) ++ a) ++ b ≡ o ++ (f ∷ (a ++ b))
+three o f a b = append_assoc (o ++ f ∷ []) a b ∙ append_assoc o (f ∷ []) (a ++ b)
+
+pub ruleset one_more = (words_of-next)

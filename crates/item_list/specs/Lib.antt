@@ -1,0 +1,3 @@
+pub mod RoomyList
+pub mod Pieces
+pub mod Numbers
