@@ -9,7 +9,7 @@ use Rattle.std.specs.BTreeMap as tree
 use Rattle.std.specs.BTreeMap.{BTreeMap, is_at}
 use Rattle.kv_block.specs.declared.changes.Change.{Change}
 use Rattle.kv_block.specs.Bytes.{key_cmp, key_eq}
-use Rattle.kv_block.proofs.Keys.{key_ties, key_eq-is, key_eq_equiv}
+use Rattle.kv_block.proofs.Keys.{key_eq-is, at_is}
 use Rattle.map_model.specs.Places.{places_at, value_of, latest}
 use Rattle.map_model.proofs.FirstMoment.{latest_last}
 
@@ -23,10 +23,6 @@ pub latest_read : (C : List Change) (ps : List ℕ) (p : ℕ) → Some p ≡ sli
 latest_read C ps p e =
     let less = slice_get_within ps (length ps - 1) p (sym e) in
     ap (value_of C) (slice_get_or ps (length ps - 1) p e) ∙ sym (latest_last C None ps (omega arith))
-
--- the order of the keys' tests
-at_is : (key q : List ℕ) → is_at (key_cmp key) q ≡ key_eq q key
-at_is key q = sym (key_ties key q) ∙ key_eq_equiv.symm key q
 
 -- a place more at a key that had some
 pub place_added : (m n : BTreeMap (List ℕ) (Vec ℕ Global)) (key q : List ℕ) (v w : Vec ℕ Global) (place : ℕ)
