@@ -177,13 +177,12 @@ module _ (s : Setting) (c k : ℕ) (q : Pair) (p : ℕ) (low : k < s.geometry.no
           body = b;
           pair = q;
           word = says Pending;
+          slot = record { candidate = candidate; chain = starts };
+          filling = λ f. absurd (subst IsFilling plain_stored f);
           fresh = record {
             packs = packs_stored;
             print = refl;
             unpublished = λ a from to. whole.1.published a;
-            candidate = candidate;
-            chain = starts;
-            filling = λ f. absurd (subst IsFilling plain_stored f);
             taken = λ a from to. whole.1.taken a from to;
           };
         }));

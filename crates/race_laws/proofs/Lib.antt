@@ -18,7 +18,7 @@ pub mod Passes
 pub mod Pending
 pub mod Clear
 pub mod Chain
-pub mod Seats
+pub mod Candidates
 pub mod Homes
 pub mod Tracks
 pub mod Paths

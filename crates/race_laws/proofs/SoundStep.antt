@@ -32,7 +32,7 @@ named_later s (later {q = q} {e = e} h) l ss b n = named_kept s q e l.1 (ss q (l
 
 module _ (s : Setting) (past : Past) (e : Entry) (l : Legal s past) (m : Meets s past e) (so : Sound s.geometry past) (ss : (at : Past) → Before at past → Sound s.geometry at) where
   -- the words of a fresh block are not the entry's
-  fresh_apart : (t p c : ℕ) (b : Body) (q : Pair) → role s.geometry past e.at ≡ SlotWord t p → IsFresh s past c t p b q → (a : ℕ) → b.at ≤ a → a < b.at + b.length → a ≢ e.at
+  fresh_apart : (t p c : ℕ) (b : Body) (q : Pair) → role s.geometry past e.at ≡ SlotWord t p → IsFresh s past c b q → (a : ℕ) → b.at ≤ a → a < b.at + b.length → a ≢ e.at
   fresh_apart t p c b q r f a h k x =
       let taken = taken_by_someone s.geometry past c a (f.taken a h k) in
       let none = fresh_none s.geometry past so a taken (f.unpublished a h k) in
@@ -40,11 +40,11 @@ module _ (s : Setting) (past : Past) (e : Entry) (l : Legal s past) (m : Meets s
       let z = ap (role s.geometry past) x in
       cc
 
-  pub fresh_packs : (t p c : ℕ) (b : Body) (q : Pair) → role s.geometry past e.at ≡ SlotWord t p → IsFresh s past c t p b q → pair_at s.geometry (e ∷ past) b ≡ Some q
+  pub fresh_packs : (t p c : ℕ) (b : Body) (q : Pair) → role s.geometry past e.at ≡ SlotWord t p → IsFresh s past c b q → pair_at s.geometry (e ∷ past) b ≡ Some q
   fresh_packs t p c b q r f = ap (λ ws. cond (nat_le (b.at + b.length) s.geometry.words) (unpacked ws) None) (words_kept s.geometry past e b.at b.length (λ a h k. word_kept s.geometry past e a (fresh_apart t p c b q r f a h k))) ∙ f.packs
 
   -- the block that an entry names for the first time is named
-  fresh_named : (t p c : ℕ) (mk : Mark) (b : Body) (q : Pair) → role s.geometry past e.at ≡ SlotWord t p → content e.new ≡ Full mk b → IsFresh s past c t p b q → Named s.geometry (e ∷ past) b
+  fresh_named : (t p c : ℕ) (mk : Mark) (b : Body) (q : Pair) → role s.geometry past e.at ≡ SlotWord t p → content e.new ≡ Full mk b → IsFresh s past c b q → Named s.geometry (e ∷ past) b
   fresh_named t p c mk b q r w f = record {
     pair = q;
     packs = fresh_packs t p c b q r f;

@@ -12,9 +12,9 @@ use Rattle.verb_log.specs.declared.kind.Kind.TheVariants.{Place}
 use Rattle.verb_log.specs.Decoded.{Body, Full, content, PlainAt, SplittingAt, FillingAt, header}
 use Rattle.verb_log.specs.Tables.{Past, Before, word_at, pair_at, is_taken_by, is_published}
 use Rattle.verb_log.specs.Kinds.{kind}
-use Rattle.race_laws.specs.Setting.{Setting, hash, places, print_of}
-use Rattle.race_laws.specs.Standing.{IsTable, header_in, birth_in, lock_in, child_in, bucket_in, place_in, depth, IsFilling, IsPlain, Exits, Word, IsIn}
-use Rattle.race_laws.specs.Chains.{OnChain, Holder}
+use Rattle.race_laws.specs.Setting.{Setting, print_of}
+use Rattle.race_laws.specs.Standing.{IsTable, header_in, birth_in, lock_in, child_in, bucket_in, place_in, depth, IsFilling, IsPlain, Exits, Word}
+use Rattle.race_laws.specs.Chains.{IsCandidate, Holder}
 use Rattle.race_laws.specs.Splits.{IsOpen, WasClear, IsQuiet, IsChild}
 use Rattle.race_laws.specs.Looks.{Swept}
 
@@ -41,24 +41,23 @@ pub record TakeRow (g : Geometry) (past : Past) (e : Entry) (k : ℕ) : Type 0 w
   pub goes_on : e.new ≡ e.old + step
   pub within : e.new ≤ (k + 1) * node_size g
 
--- a block that a slot may name for the first time: the packed form of a pair, of the stated length and fingerprint, of a
--- key that has the place as candidate in a table on its chain; where the table is filling, the same place of its parent
--- was clear for the split that made the table; and no word of the block was published
-pub record IsFresh (s : Setting) (past : Past) (c t p : ℕ) (b : Body) (q : Pair) : Type 0 where
+-- a block that a slot may name for the first time: the packed form of a pair, of the stated length and fingerprint, taken by
+-- the client, and no word of it was published
+pub record IsFresh (s : Setting) (past : Past) (c : ℕ) (b : Body) (q : Pair) : Type 0 where
   pub packs : pair_at s.geometry past b ≡ Some q
   pub print : b.print ≡ print_of s q.key
   pub unpublished : IsUnpublished s.geometry past b.at b.length
-  pub candidate : IsIn p (places s q.key)
-  pub chain : OnChain s.geometry past (hash s q.key) t
-  pub filling : IsFilling (header_in s.geometry past t) → WasClear s past (birth_in s.geometry past t).parent ((birth_in s.geometry past t).depth - 1) p
   pub taken : IsTakenBy s.geometry past c b.at b.length
 
--- Place: the new word names a fresh block
+-- Place: the new word names a fresh block, and the slot is a candidate of its key in a table on the chain; where that table
+-- is filling, the same place of its parent was clear for the split that made the table
 pub record PlaceRow (s : Setting) (past : Past) (e : Entry) (t p : ℕ) : Type 0 where
   pub body : Body
   pub pair : Pair
   pub word : content e.new ≡ Full Pending body
-  pub fresh : IsFresh s past e.client t p body pair
+  pub slot : IsCandidate s past t p pair.key
+  pub filling : IsFilling (header_in s.geometry past t) → WasClear s past (birth_in s.geometry past t).parent ((birth_in s.geometry past t).depth - 1) p
+  pub fresh : IsFresh s past e.client body pair
 
 -- the Place of the word that stands in the slot, and the sweep since then that found no word of its key
 pub record IsPlacedSwept (s : Setting) (past : Past) (e : Entry) (q : Pair) : Type 0 where
@@ -79,7 +78,8 @@ pub record CommitRow (s : Setting) (past : Past) (e : Entry) (t p : ℕ) : Type 
   pub packs : pair_at s.geometry past body ≡ Some pair
   pub swept : IsPlacedSwept s past e pair
 
--- Replace: the slot is the key's holder, and the new word names a fresh block of the same key
+-- Replace: the slot is the key's holder, and the new word names a fresh block of the same key. Nothing more is asked of the
+-- slot: it may stand in a filling table whose parent's place is still moved, and so was never clear
 pub record ReplaceRow (s : Setting) (past : Past) (e : Entry) (t p : ℕ) : Type 0 where
   pub body : Body
   pub pair : Pair
@@ -88,7 +88,7 @@ pub record ReplaceRow (s : Setting) (past : Past) (e : Entry) (t p : ℕ) : Type
   pub new_pair : Pair
   pub word : content e.new ≡ Full Live new_body
   pub same_key : new_pair.key ≡ pair.key
-  pub fresh : IsFresh s past e.client t p new_body new_pair
+  pub fresh : IsFresh s past e.client new_body new_pair
 
 -- Remove: the slot is the key's holder
 pub record RemoveRow (s : Setting) (past : Past) (e : Entry) (t p : ℕ) : Type 0 where

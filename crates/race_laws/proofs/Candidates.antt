@@ -13,7 +13,7 @@ use Rattle.verb_log.specs.Decoded.{Body, Full, content, SplittingAt, header}
 use Rattle.verb_log.specs.Tables.{Past, Before, here, later, word_at, pair_at, role}
 use Rattle.race_laws.specs.Setting.{Setting, hash, places}
 use Rattle.race_laws.specs.Standing.{IsTable, header_in, birth_in, child_in, place_in, depth, IsGone, Exits, Word, IsIn}
-use Rattle.race_laws.specs.Chains.{OnChain, goes_on}
+use Rattle.race_laws.specs.Chains.{IsCandidate, goes_on, Holder, live, copied}
 use Rattle.race_laws.specs.Splits.{WasClear}
 use Rattle.race_laws.specs.Rows.{IsPlace, IsFresh, CopyRow}
 use Rattle.race_laws.specs.Legal.{Legal}
@@ -66,11 +66,11 @@ finished s (e ∷ q) l t i p h b x k = ⊎_elim
 
 -- a live or moved word is of a key that has not left its table
 pub not_left : (s : Setting) (q : Past) → Legal s q → (mk : Mark) (t p i : ℕ) (b : Body) (pr : Pair) → IsTable s.geometry q t → IsPlace s.geometry p → Word s.geometry q mk t p b pr → (mk ≡ Live) ⊎ (mk ≡ Moved) → Exits s q t pr.key i → i < depth (header_in s.geometry q t) → ⊥
-not_left s q l mk t p i b pr h k w live ex x =
+not_left s q l mk t p i b pr h k w stands ex x =
     let from = (exit-some (hash s pr.key) (birth_in s.geometry q t).depth i ex).from in
     let c = finished s q l t i p h from x k in
     let y = clear_on s c.before l t i p k c.clear mk b pr w ex in
-    ⊎_elim (λ (z : mk ≡ Live). y.0 z) (λ (z : mk ≡ Moved). y.1 z) live
+    ⊎_elim (λ (z : mk ≡ Live). y.0 z) (λ (z : mk ≡ Moved). y.1 z) stands
 
 -- a moved word stands in a table that splits at the exit level of its key
 pub moved_splits : (s : Setting) (q : Past) → Legal s q → (t p : ℕ) (b : Body) (pr : Pair) → IsTable s.geometry q t → IsPlace s.geometry p → Word s.geometry q Moved t p b pr → (i : ℕ) × Exits s q t pr.key i × (header_in s.geometry q t ≡ SplittingAt i)
@@ -131,18 +131,14 @@ moved_splits s (e ∷ q) l t p b pr h k w = ⊎_elim
     changed y a (settle c i o n row) v = absurd (cc)
     changed y a (clear c i o n row) v = absurd (cc)
 
--- a word's place is a candidate of its key, in a table on its chain
-pub record Seat (s : Setting) (q : Past) (t p : ℕ) (key : List ℕ) : Type 0 where
-  pub candidate : IsIn p (places s key)
-  pub chain : OnChain s.geometry q (hash s key) t
-
-pub seat_later : (s : Setting) {p q : Past} → Before p q → Legal s q → (t r : ℕ) (key : List ℕ) → Seat s p t r key → Seat s q t r key
-seat_later s b l t r key x = record { candidate = x.candidate; chain = chain_before s b l (hash s key) t x.chain }
+-- what is a candidate in a table on the chain stays one
+pub candidate_later : (s : Setting) {p q : Past} → Before p q → Legal s q → (t r : ℕ) (key : List ℕ) → IsCandidate s p t r key → IsCandidate s q t r key
+candidate_later s b l t r key x = record { candidate = x.candidate; chain = chain_before s b l (hash s key) t x.chain }
 
 mark_of : (m n : Mark) (b c : Body) → Full m b ≡ Full n c → m ≡ n
 mark_of m n b c h = cc
 
-module _ (s : Setting) (q : Past) (e : Entry) (l : Legal s (e ∷ q)) (ih : (x : Past) → Before x q → (t p : ℕ) (mk : Mark) (b : Body) (pr : Pair) → IsTable s.geometry x t → IsPlace s.geometry p → Word s.geometry x mk t p b pr → Seat s x t p pr.key) (t p : ℕ) (h : IsTable s.geometry q t) (k : IsPlace s.geometry p) where
+module _ (s : Setting) (q : Past) (e : Entry) (l : Legal s (e ∷ q)) (ih : (x : Past) → Before x q → (t p : ℕ) (mk : Mark) (b : Body) (pr : Pair) → IsTable s.geometry x t → IsPlace s.geometry p → Word s.geometry x mk t p b pr → IsCandidate s x t p pr.key) (t p : ℕ) (h : IsTable s.geometry q t) (k : IsPlace s.geometry p) where
   so : Sound s.geometry q
   so = sound s q l.0
 
@@ -152,28 +148,33 @@ module _ (s : Setting) (q : Past) (e : Entry) (l : Legal s (e ∷ q)) (ih : (x :
   on : slot_at t p ≡ e.at → role s.geometry q e.at ≡ SlotWord t p
   on z = ap (role s.geometry q) (sym z) ∙ slot_is s.geometry q so t p h k
 
-  grown : (key : List ℕ) → Seat s q t p key → Seat s (e ∷ q) t p key
-  grown key x = seat_later s (later {e = e} here) l t p key x
+  grown : (key : List ℕ) → IsCandidate s q t p key → IsCandidate s (e ∷ q) t p key
+  grown key x = candidate_later s (later {e = e} here) l t p key x
 
   pair_key : {o : Option Pair} {x y : Pair} → o ≡ Some x → o ≡ Some y → x.key ≡ y.key
   pair_key h k = cc
 
   -- a word of a block that stood in this slot, or elsewhere, before
-  same_block : (mk m2 : Mark) (b c : Body) (pr : Pair) → place_in s.geometry q t p ≡ Full m2 c → content e.new ≡ Full mk c → content e.new ≡ Full mk b → pair_at s.geometry (e ∷ q) b ≡ Some pr → Seat s (e ∷ q) t p pr.key
+  same_block : (mk m2 : Mark) (b c : Body) (pr : Pair) → place_in s.geometry q t p ≡ Full m2 c → content e.new ≡ Full mk c → content e.new ≡ Full mk b → pair_at s.geometry (e ∷ q) b ≡ Some pr → IsCandidate s (e ∷ q) t p pr.key
   same_block mk m2 b c pr st n v pk =
       let nm = standing_named s.geometry q so t p m2 c h k st in
       let same = full_same mk mk c b (sym n ∙ v) in
       let pc : pair_at s.geometry q c ≡ Some pr = sym (packs_kept s q e l.1 so ss c nm) ∙ ap (pair_at s.geometry (e ∷ q)) same ∙ pk in
       grown pr.key (ih q here t p m2 c pr h k (record { stands = st; packs = pc }))
 
-  fresh_seat : (mk : Mark) (b c : Body) (pc pr : Pair) → slot_at t p ≡ e.at → IsFresh s q e.client t p c pc → content e.new ≡ Full mk c → content e.new ≡ Full mk b → pair_at s.geometry (e ∷ q) b ≡ Some pr → Seat s (e ∷ q) t p pr.key
-  fresh_seat mk b c pc pr z f n v pk =
+  -- the place of a holder that is live
+  held : {key : List ℕ} {c : Body} (b : Body) (pr : Pair) → Holder s q key t p b pr → place_in s.geometry q t p ≡ Full Live c → IsCandidate s q t p key
+  held b pr (live u r y g w kk ca ch) st = record { candidate = ca; chain = ch }
+  held b pr (copied u r y g w kk ca ta tp mo) st = let zz = w.stands in absurd (cc)
+
+  fresh_candidate : (mk : Mark) (b c : Body) (pc pr : Pair) → slot_at t p ≡ e.at → IsCandidate s q t p pc.key → IsFresh s q e.client c pc → content e.new ≡ Full mk c → content e.new ≡ Full mk b → pair_at s.geometry (e ∷ q) b ≡ Some pr → IsCandidate s (e ∷ q) t p pr.key
+  fresh_candidate mk b c pc pr z own f n v pk =
       let same = full_same mk mk c b (sym n ∙ v) in
       let key : pc.key ≡ pr.key = pair_key (fresh_packs s q e l.0 l.1 so ss t p e.client c pc (on z) f) (ap (pair_at s.geometry (e ∷ q)) same ∙ pk) in
-      subst (Seat s (e ∷ q) t p) key (grown pc.key (record { candidate = f.candidate; chain = f.chain }))
+      subst (IsCandidate s (e ∷ q) t p) key (grown pc.key own)
 
-  copy_seat : (b : Body) (pr : Pair) → CopyRow s q e t p → content e.new ≡ Full Copied b → pair_at s.geometry (e ∷ q) b ≡ Some pr → Seat s (e ∷ q) t p pr.key
-  copy_seat b pr row v pk =
+  copy_candidate : (b : Body) (pr : Pair) → CopyRow s q e t p → content e.new ≡ Full Copied b → pair_at s.geometry (e ∷ q) b ≡ Some pr → IsCandidate s (e ∷ q) t p pr.key
+  copy_candidate b pr row v pk =
       let wl = row.live in
       let from = ih wl.at wl.before (birth_in s.geometry q t).parent p Live row.body wl.pair wl.table k wl.live in
       let parent = table_before s.geometry wl.before _ _ wl.table in
@@ -186,7 +187,7 @@ module _ (s : Setting) (q : Past) (e : Entry) (l : Legal s (e ∷ q)) (ih : (x :
       let exits = exits_later s wl.before l.0 (birth_in s.geometry q t).parent row.level wl.pair.key wl.table wl.leaving in
       let gone : IsGone (header_in s.geometry q (birth_in s.geometry q t).parent) row.level = subst (λ x. IsGone x row.level) (sym row.splits) (at_most row.level) in
       let child = is_child row parent in
-      subst (Seat s (e ∷ q) t p) key (grown wl.pair.key (record { candidate = from.candidate; chain = goes_on (birth_in s.geometry q t).parent row.level t above exits gone child (table_some s.geometry q so t h) }))
+      subst (IsCandidate s (e ∷ q) t p) key (grown wl.pair.key (record { candidate = from.candidate; chain = goes_on (birth_in s.geometry q t).parent row.level t above exits gone child (table_some s.geometry q so t h) }))
     where
       at_most : (n : ℕ) → n ≤ n
       at_most n = omega arith
@@ -198,31 +199,31 @@ module _ (s : Setting) (q : Past) (e : Entry) (l : Legal s (e ∷ q)) (ih : (x :
           levels : {n i j : ℕ} → n ≡ i + 1 → n ≡ j + 1 → i ≡ j
           levels x y = omega arith
 
-  seat_changed : (mk : Mark) (b : Body) (pr : Pair) → slot_at t p ≡ e.at → SlotStep s q e t p → content e.new ≡ Full mk b → pair_at s.geometry (e ∷ q) b ≡ Some pr → Seat s (e ∷ q) t p pr.key
-  seat_changed mk b pr z (place c i o n row) v pk = let m = mark_of Pending mk row.body b (sym row.word ∙ v) in fresh_seat Pending b row.body row.pair pr z row.fresh row.word (v ∙ ap (λ x. Full x b) (sym m)) pk
-  seat_changed mk b pr z (drop c i o n) v pk = absurd (cc)
-  seat_changed mk b pr z (commit c i o n row) v pk = let m = mark_of Live mk c b (sym n ∙ v) in same_block Live Pending b c pr (ap (λ x. content (word_at s.geometry q x)) z ∙ o) n (v ∙ ap (λ x. Full x b) (sym m)) pk
-  seat_changed mk b pr z (replace c d i o n x row) v pk = let m = mark_of Live mk row.new_body b (sym row.word ∙ v) in fresh_seat Live b row.new_body row.new_pair pr z row.fresh row.word (v ∙ ap (λ x. Full x b) (sym m)) pk
-  seat_changed mk b pr z (remove c i o n row) v pk = absurd (cc)
-  seat_changed mk b pr z (copy c i o n row) v pk = let m = mark_of Copied mk row.body b (sym row.word ∙ v) in copy_seat b pr row (v ∙ ap (λ x. Full x b) (sym m)) pk
-  seat_changed mk b pr z (uncopy c i o n row) v pk = absurd (cc)
-  seat_changed mk b pr z (flip c i o n row) v pk = let m = mark_of Moved mk c b (sym n ∙ v) in same_block Moved Live b c pr (ap (λ x. content (word_at s.geometry q x)) z ∙ o) n (v ∙ ap (λ x. Full x b) (sym m)) pk
-  seat_changed mk b pr z (settle c i o n row) v pk = let m = mark_of Live mk c b (sym n ∙ v) in same_block Live Copied b c pr (ap (λ x. content (word_at s.geometry q x)) z ∙ o) n (v ∙ ap (λ x. Full x b) (sym m)) pk
-  seat_changed mk b pr z (clear c i o n row) v pk = absurd (cc)
+  candidate_changed : (mk : Mark) (b : Body) (pr : Pair) → slot_at t p ≡ e.at → SlotStep s q e t p → content e.new ≡ Full mk b → pair_at s.geometry (e ∷ q) b ≡ Some pr → IsCandidate s (e ∷ q) t p pr.key
+  candidate_changed mk b pr z (place c i o n row) v pk = let m = mark_of Pending mk row.body b (sym row.word ∙ v) in fresh_candidate Pending b row.body row.pair pr z row.slot row.fresh row.word (v ∙ ap (λ x. Full x b) (sym m)) pk
+  candidate_changed mk b pr z (drop c i o n) v pk = absurd (cc)
+  candidate_changed mk b pr z (commit c i o n row) v pk = let m = mark_of Live mk c b (sym n ∙ v) in same_block Live Pending b c pr (ap (λ x. content (word_at s.geometry q x)) z ∙ o) n (v ∙ ap (λ x. Full x b) (sym m)) pk
+  candidate_changed mk b pr z (replace c d i o n x row) v pk = let m = mark_of Live mk row.new_body b (sym row.word ∙ v) in let own = subst (IsCandidate s q t p) (sym row.same_key) (held row.body row.pair row.holder (ap (λ x. content (word_at s.geometry q x)) z ∙ o)) in fresh_candidate Live b row.new_body row.new_pair pr z own row.fresh row.word (v ∙ ap (λ x. Full x b) (sym m)) pk
+  candidate_changed mk b pr z (remove c i o n row) v pk = absurd (cc)
+  candidate_changed mk b pr z (copy c i o n row) v pk = let m = mark_of Copied mk row.body b (sym row.word ∙ v) in copy_candidate b pr row (v ∙ ap (λ x. Full x b) (sym m)) pk
+  candidate_changed mk b pr z (uncopy c i o n row) v pk = absurd (cc)
+  candidate_changed mk b pr z (flip c i o n row) v pk = let m = mark_of Moved mk c b (sym n ∙ v) in same_block Moved Live b c pr (ap (λ x. content (word_at s.geometry q x)) z ∙ o) n (v ∙ ap (λ x. Full x b) (sym m)) pk
+  candidate_changed mk b pr z (settle c i o n row) v pk = let m = mark_of Live mk c b (sym n ∙ v) in same_block Live Copied b c pr (ap (λ x. content (word_at s.geometry q x)) z ∙ o) n (v ∙ ap (λ x. Full x b) (sym m)) pk
+  candidate_changed mk b pr z (clear c i o n row) v pk = absurd (cc)
 
-  seat_step : (mk : Mark) (b : Body) (pr : Pair) → Word s.geometry (e ∷ q) mk t p b pr → Seat s (e ∷ q) t p pr.key
-  seat_step mk b pr w = ⊎_elim
+  candidate_step : (mk : Mark) (b : Body) (pr : Pair) → Word s.geometry (e ∷ q) mk t p b pr → IsCandidate s (e ∷ q) t p pr.key
+  candidate_step mk b pr w = ⊎_elim
       (λ (x : place_in s.geometry (e ∷ q) t p ≡ place_in s.geometry q t p).
       let st = sym x ∙ w.stands in
       let nm = standing_named s.geometry q so t p mk b h k st in
       grown pr.key (ih q here t p mk b pr h k (record { stands = st; packs = sym (packs_kept s q e l.1 so ss b nm) ∙ w.packs })))
-      (λ x. seat_changed mk b pr x.1 x.2 (sym x.0 ∙ w.stands) w.packs)
+      (λ x. candidate_changed mk b pr x.1 x.2 (sym x.0 ∙ w.stands) w.packs)
       (slot_cases s q e l.1 so t h p k)
 
-pub seats : (s : Setting) (q : Past) → Legal s q → (x : Past) → Before x q → (t p : ℕ) (mk : Mark) (b : Body) (pr : Pair) → IsTable s.geometry x t → IsPlace s.geometry p → Word s.geometry x mk t p b pr → Seat s x t p pr.key
-seats s [] l x here t p mk b pr h k w = let y = opening_empty_slot s.geometry t p h k in let v = w.stands in absurd (cc)
-seats s (e ∷ q) l x here t p mk b pr h k w = ⊎_elim
-    (λ (y : IsTable s.geometry q t). seat_step s q e l (seats s q l.0) t p y k mk b pr w)
+pub word_candidate : (s : Setting) (q : Past) → Legal s q → (x : Past) → Before x q → (t p : ℕ) (mk : Mark) (b : Body) (pr : Pair) → IsTable s.geometry x t → IsPlace s.geometry p → Word s.geometry x mk t p b pr → IsCandidate s x t p pr.key
+word_candidate s [] l x here t p mk b pr h k w = let y = opening_empty_slot s.geometry t p h k in let v = w.stands in absurd (cc)
+word_candidate s (e ∷ q) l x here t p mk b pr h k w = ⊎_elim
+    (λ (y : IsTable s.geometry q t). candidate_step s q e l (word_candidate s q l.0) t p y k mk b pr w)
     (λ y. let z = ap (λ v. place_in s.geometry (e ∷ q) v p) y.0 ∙ new_slot s q e l.0 l.1 y.1 p k in let v = w.stands in absurd (cc))
     (new_table s q e l.0 l.1 t h)
-seats s (e ∷ q) l x (later b2) t p mk b pr h k w = seats s q l.0 x b2 t p mk b pr h k w
+word_candidate s (e ∷ q) l x (later b2) t p mk b pr h k w = word_candidate s q l.0 x b2 t p mk b pr h k w
