@@ -1,7 +1,7 @@
 use Rattle.std.proofs.Common.{◌≡◌, reverse, take}
 use Rattle.verb_log.specs.Changes.{changes}
 use Rattle.verb_log.specs.Replay.{replay}
-use Rattle.verb_log.proofs.log.Log.changes.Given as goal
+use Rattle.verb_log.proofs.indexed.IndexedLog.changes.Given as goal
 
 -- the words and the changes of the first n entries
 abbrev pub invariant-loop-n : goal.invariant-loop-n

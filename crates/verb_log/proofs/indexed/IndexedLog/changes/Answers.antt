@@ -5,11 +5,11 @@ use Rattle.kv_block.specs.RoomyList.{RoomyList}
 use Rattle.kv_block.specs.declared.changes.Change.{Change}
 use Rattle.verb_log.proofs.InOrder.{replay-nil, length-replay}
 use Rattle.verb_log.proofs.ChangeRows.{changes_next, words_next}
-use Rattle.verb_log.proofs.log.Log.changes.Goals as goal
-use Rattle.verb_log.proofs.log.Log.changes.Goals.{in-Some+in_ok-push, in_default}
+use Rattle.verb_log.proofs.indexed.IndexedLog.changes.Goals as goal
+use Rattle.verb_log.proofs.indexed.IndexedLog.changes.Goals.{in-Some+in_ok-push, in_default}
 
 pub loop-n-init : goal.loop-n-init
-loop-n-init c = (c.in_ok-words.ensures ∙ ap opening c.geometry.ensures.value ∙ sym (replay-nil c.args.self.now.geometry), c.new-changes.ensures)
+loop-n-init c = (c.in_ok-words.ensures ∙ ap opening c.geometry.ensures ∙ sym (replay-nil c.args.self.now.geometry), c.new-changes.ensures)
 
 pub index_mut-requires : goal.index_mut-requires
 index_mut-requires c =
