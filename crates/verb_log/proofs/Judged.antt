@@ -1,16 +1,18 @@
 -- How the kind of an entry is read from the log before it, and what one entry more says of an address.
-use Rattle.std.proofs.Common.{◌≡◌, ℕ, ◌+◌, ◌-◌, List, ◌∷◌, reverse, take, Bool, true, false, cond, not, ◌&&◌, ◌||◌, Option, Some, None, refl, sym, ap, ◌∙◌}
+use Rattle.std.proofs.Common.{◌≡◌, ℕ, ◌+◌, ◌-◌, ◌%◌, List, ◌∷◌, reverse, take, Bool, true, false, cond, not, ◌&&◌, ◌||◌, Option, Some, None, refl, sym, ap, ◌∙◌, arith}
 use Rattle.std.specs.Prelude.{◌==◌, nat_le, nat_lt, slice_get}
+use Rattle.std.proofs.lemmas.Bool.Decides.{nat_tests}
 use Rattle.node_words.specs.declared.geometry.Geometry.{Geometry}
-use Rattle.node_words.specs.Addresses.{node_of, table_words}
+use Rattle.node_words.specs.Addresses.{node_size, node_of, table_words}
 use Rattle.node_words.specs.Roles.{Role as WordRole, NextWord, DepthWord, DirectoryWord, BirthWord, HeaderWord, LockWord, ReservedWord, ChildWord, BucketWord, SlotWord, HeapWord, role_in, offset_role, outer_role}
+use Rattle.node_words.proofs.RoleLemmas.{next_in}
 use Rattle.verb_log.specs.declared.entry.Entry.{Entry}
 use Rattle.verb_log.specs.declared.kind.Kind.{Kind}
 use Rattle.verb_log.specs.declared.role.Role.{Role}
 use Rattle.verb_log.specs.declared.role.Role.TheVariants.{Next, Depth, Directory, Birth, Header, Lock, Reserved, Child, Bucket, Slot, Heap}
 use Rattle.verb_log.specs.declared.standing.Standing.{Standing}
 use Rattle.verb_log.specs.Decoded.{content}
-use Rattle.verb_log.specs.Tables.{Past, is_among, is_address, or_else, covers, links, linked_by, moves_across, publishes, may_store, table_of, is_taken, is_published, role, judged_role}
+use Rattle.verb_log.specs.Tables.{Past, is_among, is_address, or_else, covers, links, linked_by, moves_across, publishes, may_store, judged, table_of, is_taken, is_published, role, judged_role}
 use Rattle.verb_log.specs.Kinds.{kind, kind_of_role}
 use Rattle.verb_log.specs.Replay.{kind_of_some, kind_at}
 use Rattle.verb_log.specs.PlainRoles.{plain_role}
@@ -119,14 +121,36 @@ unreached_links g e Child a h = by (e.old == 0) (is_address g e.new) (is_among e
     by false y z h = refl
 unreached_links g e _ a h = refl
 
-unreached_moves : (g : Geometry) (e : Entry) (r : Role) (a : ℕ) → (nat_le e.old a && nat_lt a e.new) ≡ false → plain_moves g e r a ≡ false
-unreached_moves g e Next a h = by (nat_le e.old a) (nat_lt a e.new) (node_of g a == node_of g e.at) h
+-- a word that the table of kinds takes for a next word is the first of its node
+next_word : (r : WordRole) → plain_role r ≡ Next → (k : ℕ) × (r ≡ NextWord k)
+next_word (NextWord k) h = (k, refl)
+next_word DepthWord h = absurd (cc)
+next_word (DirectoryWord j) h = absurd (cc)
+next_word (BirthWord t) h = absurd (cc)
+next_word (HeaderWord t) h = absurd (cc)
+next_word (LockWord t) h = absurd (cc)
+next_word ReservedWord h = absurd (cc)
+next_word (ChildWord t i) h = absurd (cc)
+next_word (BucketWord t m) h = absurd (cc)
+next_word (SlotWord t p) h = absurd (cc)
+next_word HeapWord h = absurd (cc)
+
+next_first : (g : Geometry) (a : ℕ) (o : Option ℕ) (x y : Bool) → plain_role (judged x y (role_in g a o)) ≡ Next → a % node_size g ≡ 0
+next_first g a o x y h = by (x && not y) h
   where
-    by : (x y z : Bool) → (x && y) ≡ false → (x && y && z) ≡ false
-    by true true z h = absurd (cc)
-    by true false z h = refl
-    by false y z h = refl
-unreached_moves g e _ a h = refl
+    by : (b : Bool) → plain_role (cond b HeapWord (role_in g a o)) ≡ Next → a % node_size g ≡ 0
+    by true h = absurd (cc)
+    by false h = let k = next_word (role_in g a o) h in (next_in g a o k.0 k.1).1
+
+unreached_moves : (g : Geometry) (e : Entry) (r : Role) (a : ℕ) → (r ≡ Next → e.at % node_size g ≡ 0) → ((e.at % node_size g == 0) && nat_le e.old a && nat_lt a e.new) ≡ false → plain_moves g e r a ≡ false
+unreached_moves g e Next a first h = by (e.at % node_size g == 0) (nat_le e.old a) (nat_lt a e.new) (node_of g a == node_of g e.at) (let z = first refl in grind (arith, nat_tests)) h
+  where
+    by : (f x y z : Bool) → f ≡ true → (f && x && y) ≡ false → (x && y && z) ≡ false
+    by true true true z t h = absurd (cc)
+    by true true false z t h = refl
+    by true false y z t h = refl
+    by false x y z t h = absurd (cc)
+unreached_moves g e _ a first h = refl
 
 unreached_publishes : (g : Geometry) (e : Entry) (r : Role) (a : ℕ) → (is_address g e.new && is_among e.new (table_words g) a) ≡ false → covers (content e.new) a ≡ false → plain_publishes g e r a ≡ false
 unreached_publishes g e Slot a h k = k
@@ -141,10 +165,10 @@ or_parts false false z h = (refl, refl, h)
 pub unreached : (g : Geometry) (e : Entry) (there s : Standing) (a : ℕ) → may_reach g e a ≡ false → next_standing g e there s a ≡ s
 unfolding standings
 unreached g e there s a h =
-    let p = or_parts (is_address g e.new && is_among e.new (table_words g) a) (nat_le e.old a && nat_lt a e.new) (covers (content e.new) a) h in
+    let p = or_parts (is_address g e.new && is_among e.new (table_words g) a) ((e.at % node_size g == 0) && nat_le e.old a && nat_lt a e.new) (covers (content e.new) a) h in
     same_standings
     (ap (λ (b : Bool). or_else s.table (cond b (Some e.new) None)) (unreached_links g e (judged_there g there e.at) a p.0) ∙ none s.table)
-    (ap (λ (b : Bool). b || s.taken) (unreached_moves g e (judged_there g there e.at) a p.1))
+    (ap (λ (b : Bool). b || s.taken) (unreached_moves g e (judged_there g there e.at) a (next_first g e.at there.table there.taken there.published) p.1))
     (ap (λ (b : Bool). b || s.published) (unreached_publishes g e (role_there g there e.at) a p.0 p.2))
   where
     none : (o : Option ℕ) → or_else o None ≡ o

@@ -1,7 +1,7 @@
 -- What a log says of one address, in one record; and what one entry more says of it.
-use Rattle.std.specs.Prelude.{◌≡◌, ℕ, Bool, ◌+◌, ◌&&◌, ◌||◌, not, cond, nat_le, nat_lt, ◌==◌, false, Option, Some, None}
+use Rattle.std.specs.Prelude.{◌≡◌, ℕ, Bool, ◌+◌, ◌%◌, ◌&&◌, ◌||◌, not, cond, nat_le, nat_lt, ◌==◌, false, Option, Some, None}
 use Rattle.node_words.specs.declared.geometry.Geometry.{Geometry}
-use Rattle.node_words.specs.Addresses.{node_of, table_words}
+use Rattle.node_words.specs.Addresses.{node_size, node_of, table_words}
 use Rattle.node_words.specs.Roles.{role_in}
 use Rattle.verb_log.specs.declared.entry.Entry.{Entry}
 use Rattle.verb_log.specs.declared.role.Role.{Role}
@@ -47,7 +47,7 @@ next_standing g e there s a = record {
 
 -- an entry may change what is said of the address, if its word has the role for it
 abbrev pub may_reach : Geometry → Entry → ℕ → Bool
-may_reach g e a = (is_address g e.new && is_among e.new (table_words g) a) || (nat_le e.old a && nat_lt a e.new) || covers (content e.new) a
+may_reach g e a = (is_address g e.new && is_among e.new (table_words g) a) || ((e.at % node_size g == 0) && nat_le e.old a && nat_lt a e.new) || covers (content e.new) a
 
 -- the address stands in a span
 abbrev pub is_in : Span → ℕ → Bool

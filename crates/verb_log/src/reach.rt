@@ -123,11 +123,13 @@ fn block_in(word: u64) -> Span
     }
 }
 
-/// Whether an entry on a word of the right role would link, take or publish an address.
+/// Whether an entry on a word of the right role would link, take or publish an address. A next word is the first of its node.
+#[tactic(auto, using(std::proofs::lemmas::Bool::Decides::nat_tests), unfolding(node_words::specs::Addresses::node_size))]
 pub(crate) fn may_reach(geometry: &Geometry, entry: &Entry, at: u64) -> bool
     ensures { result ≡ may_reach geometry.now entry.now at }
 {
+    let size = geometry.words / u64::from(geometry.nodes);
     names_word(geometry, entry.new) && is_among(entry.new, geometry.table_words(), at)
-        || entry.old <= at && at < entry.new
+        || entry.at % size == 0 && entry.old <= at && at < entry.new
         || covers(entry.new, at)
 }
