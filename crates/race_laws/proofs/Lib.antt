@@ -7,6 +7,8 @@ pub mod Sound
 pub mod Slots
 pub mod RegionsStep
 pub mod SoundStep
+pub mod Published
+pub mod OneRow
 pub mod Frames
 pub mod Finality
 pub mod Splits

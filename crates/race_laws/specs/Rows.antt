@@ -117,8 +117,8 @@ pub record IsNewborn (g : Geometry) (past : Past) (t i c : ℕ) : Type 0 where
   pub buckets : (m : ℕ) → m < 2 * g.groups → bucket_in g past c m ≡ FillingAt (i + 1)
   pub blank : (o : ℕ) → o < table_words g → IsBlank (offset_role c o) → word_at g past (c + o) ≡ 0
 
--- Link: no split touches the table, the level is its depth, and the new address is a table's region with the words of its
--- child, no one of them published
+-- Link: no split touches the table, the level is its depth, which is below the greatest, and the new address is a table's
+-- region with the words of its child, no one of them published
 pub record LinkRow (g : Geometry) (past : Past) (e : Entry) (t i : ℕ) : Type 0 where
   pub quiet : IsQuiet g past t
   pub level : header_in g past t ≡ PlainAt i
@@ -129,7 +129,7 @@ pub record LinkRow (g : Geometry) (past : Past) (e : Entry) (t i : ℕ) : Type 0
   pub own_lock : HasLock g past e.client e.new
   pub locked : HasLock g past e.client t
 
--- Begin: a child is linked at the depth
+-- Begin: the depth is below the greatest, and a child is linked at it
 pub record BeginRow (g : Geometry) (past : Past) (e : Entry) (t : ℕ) : Type 0 where
   pub below : depth (header e.old) < g.max_depth
   pub linked : child_in g past t (depth (header e.old)) ≢ 0
@@ -201,7 +201,7 @@ pub record ClearRow (g : Geometry) (past : Past) (e : Entry) (t p : ℕ) : Type 
 abbrev pub IsPlace : Geometry → ℕ → Type 0
 IsPlace g p = (p < 24 * g.groups) × (p % 8 ≢ 0)
 
--- Finish: each place was clear, none is moved, and no place of the child is a copy
+-- Finish: each place was clear for this split, none is moved, and no place of the child is a copy
 pub record FinishRow (s : Setting) (past : Past) (e : Entry) (t : ℕ) : Type 0 where
   pub clear : (p : ℕ) → IsPlace s.geometry p → WasClear s past t (depth (header e.old)) p
   pub none_moved : (p : ℕ) (b : Body) → IsPlace s.geometry p → place_in s.geometry past t p ≢ Full Moved b
@@ -225,15 +225,15 @@ pub record RipenHeaderRow (g : Geometry) (past : Past) (e : Entry) (t : ℕ) : T
   pub ripens : RipenRow g past e t
   pub buckets : (m : ℕ) → m < 2 * g.groups → IsPlain (bucket_in g past t m)
 
--- Name, of directory word j: the address is a table with this suffix whose split has opened; the old word is 0 or a table
--- of smaller birth depth
+-- Name, of directory word j: the address is a table with the suffix of j, and a first table or one whose split has finished
+-- (its parent has at least its birth depth); the old word is 0 or a table of smaller birth depth
 pub record NameRow (g : Geometry) (past : Past) (e : Entry) (j : ℕ) : Type 0 where
   pub is_table : IsTable g past e.new
   pub suffix : (birth_in g past e.new).suffix ≡ j % 2 ^ (birth_in g past e.new).depth
   pub ready : (e.new < first_free g) ⊎ ((birth_in g past e.new).depth ≤ depth (header_in g past (birth_in g past e.new).parent))
   pub shallower : (e.old ≡ 0) ⊎ (IsTable g past e.old × ((birth_in g past e.old).depth < (birth_in g past e.new).depth))
 
--- Deepen: the directory has its words up to the new depth
+-- Deepen: the new depth is at most the greatest, and no directory word below 2^(new depth) is 0
 pub record DeepenRow (g : Geometry) (past : Past) (e : Entry) : Type 0 where
   pub below : e.new ≤ g.max_depth
   pub named : (j : ℕ) → j < 2 ^ e.new → word_at g past (directory_at j) ≢ 0

@@ -16,7 +16,7 @@ use Rattle.verb_log.specs.Kinds.{same_body, other_block, only_if, slot_kind, hea
 use Rattle.verb_log.specs.PlainRoles.{plain_role}
 use Rattle.verb_log.specs.PlainKinds.{kind_of_plain}
 use Rattle.verb_log.specs.Laws.{RowsAreKinds, NoRowNoKind, OneRow}
-use Rattle.verb_log.specs.declared.role.Role.TheVariants.{Slot, Header as HeaderRole, Bucket}
+use Rattle.verb_log.specs.declared.role.Role.TheVariants.{Slot, Header as HeaderRole, Bucket, Heap}
 use Rattle.verb_log.specs.Fits.{Fits, IsAddress, row_number, IsFirstRow}
 use Rattle.verb_log.proofs.Judged.{plain_kind}
 
@@ -258,6 +258,31 @@ module _ (g : Geometry) (past : Past) (e : Entry) where
       by : (b : Bool) → may_store g past e.at ≡ b → ⊥
       by true h = let x = stored h in cc
       by false h = let x = kind_by k h f in cc
+
+-- of a heap word no other row fits
+pub heap_row : (g : Geometry) (past : Past) (e : Entry) (r : WordRole) (k : Kind) → plain_role r ≡ Heap → Fits g past e r k → k ≡ Store
+heap_row g past e r Store h f = refl
+heap_row g past e r Take h f = absurd (let x = f.0 in cc)
+heap_row g past e r Place h f = absurd (let x = f.0 in cc)
+heap_row g past e r Drop h f = absurd (let x = f.0 in cc)
+heap_row g past e r Commit h f = absurd (let x = f.0 in cc)
+heap_row g past e r Replace h f = absurd (let x = f.0 in cc)
+heap_row g past e r Remove h f = absurd (let x = f.0 in cc)
+heap_row g past e r Lock h f = absurd (let x = f.0 in cc)
+heap_row g past e r Unlock h f = absurd (let x = f.0 in cc)
+heap_row g past e r Link h f = absurd (let x = f.0 in cc)
+heap_row g past e r Begin h f = absurd (let x = f.0 in cc)
+heap_row g past e r Open h f = absurd (let x = f.0 in cc)
+heap_row g past e r Copy h f = absurd (let x = f.0 in cc)
+heap_row g past e r Uncopy h f = absurd (let x = f.0 in cc)
+heap_row g past e r Flip h f = absurd (let x = f.0 in cc)
+heap_row g past e r Settle h f = absurd (let x = f.0 in cc)
+heap_row g past e r Clear h f = absurd (let x = f.0 in cc)
+heap_row g past e r Finish h f = absurd (let x = f.0 in cc)
+heap_row g past e r Close h f = absurd (let x = f.0 in cc)
+heap_row g past e r Name h f = absurd (let x = f.0 in cc)
+heap_row g past e r Deepen h f = absurd (let x = f.0 in cc)
+heap_row g past e r Ripen h f = absurd (elim f.0 [ inl x ↦ (cc) | inr x ↦ (cc) ])
 
 -- the laws
 some_kind : (o : Option Kind) → ((k : Kind) → o ≡ Some k → ⊥) → o ≡ None

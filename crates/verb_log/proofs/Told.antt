@@ -13,7 +13,7 @@ use Rattle.verb_log.specs.declared.reach.Span.{Span}
 use Rattle.verb_log.specs.declared.reach.Reach.{Reach}
 use Rattle.verb_log.specs.Tables.{Past, Before, here, later, is_among, or_else, links, moves_across, publishes, table_of, is_taken, is_published, role, judged_role}
 use Rattle.verb_log.specs.Links.{Link, older, link_of, table_then, take_of, publish_of, was_before}
-use Rattle.verb_log.specs.Standings.{standing_of, is_in, Reaches}
+use Rattle.verb_log.specs.Standings.{standing_of, in_span, Reaches}
 use Rattle.verb_log.specs.Indexed.{TellsOf, link_number, told_number}
 use Rattle.verb_log.proofs.Positions.{Before-prefix, length-position, position_take}
 use Rattle.verb_log.proofs.Linked.{link_entry, table_take, table_low}
@@ -110,10 +110,10 @@ told_published g l list n a o tells within h read =
     ∙ sym (published_then g (reverse (take n l)) (reverse l) a (Before-prefix l n) ∙ ap (λ (k : ℕ). was_before k (publish_of g (reverse l) a)) (length-position l n h))
 
 -- each list, told of one entry more
-told_next : (before after : List (Option ℕ)) (span : Span) (number : ℕ) (was now : ℕ → Option ℕ) (reached : ℕ → Bool) → TellsOf was before → length after ≡ length before → ((a : ℕ) → a < length before → get_or after a None ≡ told_number span number before a) → ((a : ℕ) → is_in span a ≡ reached a) → ((a : ℕ) → or_else (was a) (cond (reached a) (Some number) None) ≡ now a) → TellsOf now after
+told_next : (before after : List (Option ℕ)) (span : Span) (number : ℕ) (was now : ℕ → Option ℕ) (reached : ℕ → Bool) → TellsOf was before → length after ≡ length before → ((a : ℕ) → a < length before → get_or after a None ≡ told_number span number before a) → ((a : ℕ) → in_span span a ≡ reached a) → ((a : ℕ) → or_else (was a) (cond (reached a) (Some number) None) ≡ now a) → TellsOf now after
 told_next before after span number was now reached tells long told reaches next a within =
     let w : a < length before = omega arith in
-    told a w ∙ ap (λ (o : Option ℕ). or_else o (cond (is_in span a) (Some number) None)) (tells a w) ∙ ap (λ (b : Bool). or_else (was a) (cond b (Some number) None)) (reaches a) ∙ next a
+    told a w ∙ ap (λ (o : Option ℕ). or_else o (cond (in_span span a) (Some number) None)) (tells a w) ∙ ap (λ (b : Bool). or_else (was a) (cond b (Some number) None)) (reaches a) ∙ next a
 
 link_older : (o : Option Link) (b : Bool) (m t : ℕ) → or_else (option_map (λ (link : Link). link.number) o) (cond b (Some m) None) ≡ option_map (λ (link : Link). link.number) (older o (cond b (Some (record { number = m; table = t })) None))
 link_older None true m t = refl

@@ -5,7 +5,7 @@ use Rattle.verb_log.specs.declared.reach.Span.{Span}
 use Rattle.verb_log.specs.declared.index.Index.{Index}
 use Rattle.verb_log.specs.Tables.{Past, or_else}
 use Rattle.verb_log.specs.Links.{Link, link_of, take_of, publish_of}
-use Rattle.verb_log.specs.Standings.{is_in}
+use Rattle.verb_log.specs.Standings.{in_span}
 
 -- a list that tells a number of each word, or none
 abbrev pub TellsOf : (ℕ → Option ℕ) → List (Option ℕ) → Type 0
@@ -25,7 +25,7 @@ pub record Tells (g : Geometry) (past : Past) (index : Index) : Type 0 where
 
 -- what is told of a word behind an entry of this number, which reaches a span
 abbrev pub told_number : Span → ℕ → List (Option ℕ) → ℕ → Option ℕ
-told_number span number list a = or_else (slice_index_or list a None) (cond (is_in span a) (Some number) None)
+told_number span number list a = or_else (slice_index_or list a None) (cond (in_span span a) (Some number) None)
 
 -- an entry is told for the words below an address, and not yet for the others
 pub record ToldTo (span : Span) (number at : ℕ) (before after : List (Option ℕ)) : Type 0 where

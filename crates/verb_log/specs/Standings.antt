@@ -50,11 +50,11 @@ abbrev pub may_reach : Geometry → Entry → ℕ → Bool
 may_reach g e a = (is_address g e.new && is_among e.new (table_words g) a) || ((e.at % node_size g == 0) && nat_le e.old a && nat_lt a e.new) || covers (content e.new) a
 
 -- the address stands in a span
-abbrev pub is_in : Span → ℕ → Bool
-is_in span a = is_among span.from span.count a
+abbrev pub in_span : Span → ℕ → Bool
+in_span span a = is_among span.from span.count a
 
 -- the spans of the addresses that an entry links, takes and publishes
 pub record Reaches (g : Geometry) (e : Entry) (there : Standing) (reach : Reach) : Type 0 where
-  pub linked : (a : ℕ) → is_in reach.linked a ≡ plain_links g e (judged_there g there e.at) a
-  pub taken : (a : ℕ) → is_in reach.taken a ≡ plain_moves g e (judged_there g there e.at) a
-  pub published : (a : ℕ) → is_in reach.published a ≡ plain_publishes g e (role_there g there e.at) a
+  pub linked : (a : ℕ) → in_span reach.linked a ≡ plain_links g e (judged_there g there e.at) a
+  pub taken : (a : ℕ) → in_span reach.taken a ≡ plain_moves g e (judged_there g there e.at) a
+  pub published : (a : ℕ) → in_span reach.published a ≡ plain_publishes g e (role_there g there e.at) a

@@ -3,7 +3,7 @@ ghost use Rattle.std.specs.Prelude.{◌≡◌, ◌≤◌, ◌<◌, ◌&&◌, ◌
 ghost use Rattle.verb_log.specs.Decoded.{content};
 ghost use Rattle.verb_log.specs.declared.role.Role.TheVariants.{Next};
 ghost use Rattle.verb_log.specs.Tables.{covers};
-ghost use Rattle.verb_log.specs.Standings.{is_in, role_there, judged_there, plain_links, plain_moves, plain_publishes, may_reach, next_standing, Reaches};
+ghost use Rattle.verb_log.specs.Standings.{in_span, role_there, judged_there, plain_links, plain_moves, plain_publishes, may_reach, next_standing, Reaches};
 
 use crate::entry::Entry;
 use crate::kinds::{Content, covers, is_among, names_word, read_content};
@@ -24,7 +24,7 @@ impl Span {
 
     /// Whether an address is among them.
     pub(crate) fn has(&self, at: u64) -> bool
-        ensures { result ≡ is_in self.now at }
+        ensures { result ≡ in_span self.now at }
     {
         is_among(self.from, self.count, at)
     }
@@ -59,7 +59,7 @@ impl Reach {
 
 /// The table that an entry links.
 fn linked_by(geometry: &Geometry, entry: &Entry, judged: Role) -> Span
-    ensures { (a : ℕ) → is_in result a ≡ plain_links geometry.now entry.now judged a }
+    ensures { (a : ℕ) → in_span result a ≡ plain_links geometry.now entry.now judged a }
 {
     if judged == Role::Child && entry.old == 0 && names_word(geometry, entry.new) {
         Span {
@@ -74,7 +74,7 @@ fn linked_by(geometry: &Geometry, entry: &Entry, judged: Role) -> Span
 /// The words that an entry takes.
 fn taken_by(geometry: &Geometry, entry: &Entry, judged: Role) -> Span
     requires { entry.now.at < geometry.now.words }
-    ensures { (a : ℕ) → is_in result a ≡ plain_moves geometry.now entry.now judged a }
+    ensures { (a : ℕ) → in_span result a ≡ plain_moves geometry.now entry.now judged a }
 {
     match judged {
         Role::Next => moved_across(geometry, entry),
@@ -85,7 +85,7 @@ fn taken_by(geometry: &Geometry, entry: &Entry, judged: Role) -> Span
 /// The words across which an entry moves its word, as far as the node of the word goes.
 fn moved_across(geometry: &Geometry, entry: &Entry) -> Span
     requires { entry.now.at < geometry.now.words }
-    ensures { (a : ℕ) → is_in result a ≡ plain_moves geometry.now entry.now Next a }
+    ensures { (a : ℕ) → in_span result a ≡ plain_moves geometry.now entry.now Next a }
 {
     let size = geometry.words / u64::from(geometry.nodes);
     let start = entry.at / size * size;
@@ -98,7 +98,7 @@ fn moved_across(geometry: &Geometry, entry: &Entry) -> Span
 
 /// The words that an entry publishes.
 fn published_by(geometry: &Geometry, entry: &Entry, role: Role) -> Span
-    ensures { (a : ℕ) → is_in result a ≡ plain_publishes geometry.now entry.now role a }
+    ensures { (a : ℕ) → in_span result a ≡ plain_publishes geometry.now entry.now role a }
 {
     match role {
         Role::Slot => block_in(entry.new),
@@ -112,7 +112,7 @@ fn published_by(geometry: &Geometry, entry: &Entry, role: Role) -> Span
 
 /// The words of the block that a word names in a slot.
 fn block_in(word: u64) -> Span
-    ensures { (a : ℕ) → is_in result a ≡ covers (content word) a }
+    ensures { (a : ℕ) → in_span result a ≡ covers (content word) a }
 {
     match read_content(word) {
         Content::Full(slot) => Span {
