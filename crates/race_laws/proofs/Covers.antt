@@ -4,11 +4,11 @@ use Rattle.std.proofs.Common.{sym, ◌∙◌, ap, arith}
 use Rattle.std.proofs.lemmas.Bool.Decides.{nat_tests}
 use Rattle.slot_word.specs.declared.slots.Mark.{Mark}
 use Rattle.node_words.specs.declared.geometry.Geometry.{Geometry}
-use Rattle.node_words.specs.Addresses.{table_words}
+use Rattle.node_words.specs.Addresses.{node_of, table_words}
 use Rattle.node_words.specs.Roles.{Role, NextWord, DepthWord, DirectoryWord, BirthWord, HeaderWord, LockWord, ReservedWord, ChildWord, BucketWord, SlotWord, HeapWord}
 use Rattle.verb_log.specs.declared.entry.Entry.{Entry}
 use Rattle.verb_log.specs.Decoded.{Body, Content, Empty, Full}
-use Rattle.verb_log.specs.Tables.{Past, Before, here, later, is_among, table_of, links, linked_by, is_taken, moves_across, is_published, publishes, covers}
+use Rattle.verb_log.specs.Tables.{Past, Before, here, later, is_among, is_address, table_of, links, linked_by, is_taken, moves_across, is_published, publishes, covers}
 use Rattle.race_laws.proofs.Touch.{table_stays, taken_stays, published_stays, and_both}
 
 -- what was taken or published at a position is so later
@@ -25,32 +25,32 @@ table_before g here a t h = h
 table_before g (later {q = q} {e = e} b) a t h = table_stays g q e a t (table_before g b a t h)
 
 -- an entry that takes an address is on a next word
-pub moved_by : (e : Entry) (r : Role) (a : ℕ) → moves_across e r a ≡ true → (k : ℕ) × (r ≡ NextWord k) × (e.old ≤ a) × (a < e.new)
-moved_by e (NextWord k) a h = let x = and_both (nat_le e.old a) (nat_lt a e.new) h in (k, refl, grind (arith, nat_tests, x.0), grind (arith, nat_tests, x.1))
-moved_by e DepthWord a h = cc
-moved_by e (DirectoryWord j) a h = cc
-moved_by e (BirthWord t) a h = cc
-moved_by e (HeaderWord t) a h = cc
-moved_by e (LockWord t) a h = cc
-moved_by e ReservedWord a h = cc
-moved_by e (ChildWord t i) a h = cc
-moved_by e (BucketWord t n) a h = cc
-moved_by e (SlotWord t p) a h = cc
-moved_by e HeapWord a h = cc
+pub moved_by : (g : Geometry) (e : Entry) (r : Role) (a : ℕ) → moves_across g e r a ≡ true → (k : ℕ) × (r ≡ NextWord k) × (e.old ≤ a) × (a < e.new)
+moved_by g e (NextWord k) a h = let x = and_both (nat_le e.old a && nat_lt a e.new) (node_of g a == node_of g e.at) h in let y = and_both (nat_le e.old a) (nat_lt a e.new) x.0 in (k, refl, grind (arith, nat_tests, y.0), grind (arith, nat_tests, y.1))
+moved_by g e DepthWord a h = cc
+moved_by g e (DirectoryWord j) a h = cc
+moved_by g e (BirthWord t) a h = cc
+moved_by g e (HeaderWord t) a h = cc
+moved_by g e (LockWord t) a h = cc
+moved_by g e ReservedWord a h = cc
+moved_by g e (ChildWord t i) a h = cc
+moved_by g e (BucketWord t n) a h = cc
+moved_by g e (SlotWord t p) a h = cc
+moved_by g e HeapWord a h = cc
 
 -- an entry that links is on an empty child word
-pub links_child : (e : Entry) (r : Role) → links e r ≡ true → (t : ℕ) × (i : ℕ) × (r ≡ ChildWord t i)
-links_child e (NextWord k) h = cc
-links_child e DepthWord h = cc
-links_child e (DirectoryWord j) h = cc
-links_child e (BirthWord t) h = cc
-links_child e (HeaderWord t) h = cc
-links_child e (LockWord t) h = cc
-links_child e ReservedWord h = cc
-links_child e (ChildWord t i) h = (t, i, refl)
-links_child e (BucketWord t n) h = cc
-links_child e (SlotWord t p) h = cc
-links_child e HeapWord h = cc
+pub links_child : (g : Geometry) (e : Entry) (r : Role) → links g e r ≡ true → (t : ℕ) × (i : ℕ) × (r ≡ ChildWord t i)
+links_child g e (NextWord k) h = cc
+links_child g e DepthWord h = cc
+links_child g e (DirectoryWord j) h = cc
+links_child g e (BirthWord t) h = cc
+links_child g e (HeaderWord t) h = cc
+links_child g e (LockWord t) h = cc
+links_child g e ReservedWord h = cc
+links_child g e (ChildWord t i) h = (t, i, refl)
+links_child g e (BucketWord t n) h = cc
+links_child g e (SlotWord t p) h = cc
+links_child g e HeapWord h = cc
 
 linked_test : (y : Bool) (v t : ℕ) → cond y (Some v) None ≡ Some t → (y ≡ true) × (t ≡ v)
 linked_test true v t h = (refl, (cc))
@@ -62,17 +62,17 @@ among t n a h = let x = and_both (nat_le t a) (nat_lt a (t + n)) h in (grind (ar
 pub among_test : (t n a : ℕ) → t ≤ a → a < t + n → is_among t n a ≡ true
 among_test t n a h k = grind (arith, nat_tests)
 
-pub linked_is : (g : Geometry) (e : Entry) (r : Role) (a t : ℕ) → linked_by g e r a ≡ Some t → (links e r ≡ true) × (e.new ≤ a) × (a < e.new + table_words g) × (t ≡ e.new)
+pub linked_is : (g : Geometry) (e : Entry) (r : Role) (a t : ℕ) → linked_by g e r a ≡ Some t → (links g e r ≡ true) × (e.new ≤ a) × (a < e.new + table_words g) × (t ≡ e.new)
 linked_is g e r a t h =
-    let x = linked_test (links e r && is_among e.new (table_words g) a) e.new t h in
-    let y = and_both (links e r) (is_among e.new (table_words g) a) x.0 in
+    let x = linked_test (links g e r && is_among e.new (table_words g) a) e.new t h in
+    let y = and_both (links g e r) (is_among e.new (table_words g) a) x.0 in
     let z = among e.new (table_words g) a y.1 in
     (y.0, z.0, z.1, x.1)
 
-pub linked_to : (g : Geometry) (e : Entry) (r : Role) (a : ℕ) → links e r ≡ true → e.new ≤ a → a < e.new + table_words g → linked_by g e r a ≡ Some e.new
+pub linked_to : (g : Geometry) (e : Entry) (r : Role) (a : ℕ) → links g e r ≡ true → e.new ≤ a → a < e.new + table_words g → linked_by g e r a ≡ Some e.new
 linked_to g e r a h k l = ap (λ (x : Bool). cond (x && is_among e.new (table_words g) a) (Some e.new) None) h ∙ ap (λ (x : Bool). cond x (Some e.new) None) (among_test e.new (table_words g) a k l)
 
-pub links_publish : (g : Geometry) (e : Entry) (r : Role) (a : ℕ) → links e r ≡ true → e.new ≤ a → a < e.new + table_words g → publishes g e r a ≡ true
+pub links_publish : (g : Geometry) (e : Entry) (r : Role) (a : ℕ) → links g e r ≡ true → e.new ≤ a → a < e.new + table_words g → publishes g e r a ≡ true
 links_publish g e (NextWord k) a h k' l = cc
 links_publish g e DepthWord a h k l = cc
 links_publish g e (DirectoryWord j) a h k l = cc
@@ -80,7 +80,7 @@ links_publish g e (BirthWord t) a h k l = cc
 links_publish g e (HeaderWord t) a h k l = cc
 links_publish g e (LockWord t) a h k l = cc
 links_publish g e ReservedWord a h k l = cc
-links_publish g e (ChildWord t i) a h k l = let x = and_both (e.old == 0) (not (e.new == 0)) h in ap (λ (y : Bool). y && is_among e.new (table_words g) a) x.1 ∙ among_test e.new (table_words g) a k l
+links_publish g e (ChildWord t i) a h k l = let x = and_both (e.old == 0) (is_address g e.new) h in ap (λ (y : Bool). y && is_among e.new (table_words g) a) x.1 ∙ among_test e.new (table_words g) a k l
 links_publish g e (BucketWord t n) a h k l = cc
 links_publish g e (SlotWord t p) a h k l = cc
 links_publish g e HeapWord a h k l = cc

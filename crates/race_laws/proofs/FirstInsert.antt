@@ -23,7 +23,7 @@ use Rattle.node_words.proofs.OpeningWords.{next_apart, opening_slot}
 use Rattle.verb_log.specs.declared.entry.Entry.{Entry}
 use Rattle.verb_log.specs.declared.kind.Kind.TheVariants.{Place, Commit}
 use Rattle.verb_log.specs.Decoded.{Body, Empty, Full, content, content_of, PlainAt, header, birth}
-use Rattle.verb_log.specs.Tables.{Past, here, word_at, pair_at, table_of, role}
+use Rattle.verb_log.specs.Tables.{Past, here, word_at, pair_at, table_of, role, judged_role}
 use Rattle.verb_log.specs.Kinds.{kind, kind_of_role, slot_kind, only_if, same_body}
 use Rattle.race_laws.specs.Setting.{Setting, hash, places, main_of, print_of, base}
 use Rattle.race_laws.specs.Standing.{IsTable, header_in, birth_in, place_in, key_header, IsFilling, IsGone, Stays, IsIn}
@@ -35,6 +35,7 @@ use Rattle.race_laws.specs.FirstInsert.{take_first, first_block, word_of, on_slo
 use Rattle.race_laws.proofs.Touch.{word_kept, word_put, table_stays, role_stays}
 use Rattle.race_laws.proofs.Regions.{base_low}
 use Rattle.race_laws.proofs.Slots.{content-0, slot_is}
+use Rattle.race_laws.proofs.Sound.{judged_is}
 use Rattle.race_laws.proofs.SoundStep.{sound}
 use Rattle.race_laws.proofs.RegionsStep.{words_kept}
 use Rattle.race_laws.proofs.Frames.{bucket_is}
@@ -131,6 +132,9 @@ module _ (s : Setting) (c k : ℕ) (q : Pair) (p : ℕ) (low : k < s.geometry.no
   role_stored : role s.geometry (stored s c k q) own ≡ SlotWord t p
   role_stored = slot_is s.geometry (stored s c k q) (sound s (stored s c k q) whole.0) t p (table_stored t (omega arith) (omega arith)) is_place
 
+  judged_stored : judged_role s.geometry (stored s c k q) own ≡ SlotWord t p
+  judged_stored = judged_is s.geometry (stored s c k q) (sound s (stored s c k q) whole.0) own ∙ role_stored
+
   empty_stored : (r : ℕ) → IsPlace s.geometry r → word_at s.geometry (stored s c k q) (slot_at t r) ≡ 0
   empty_stored r h = word_stored (slot_at t r) (omega arith) (slot_inside r h) ∙ opening_slot s.geometry (hash s q.key % 2 ^ s.geometry.first_depth) r index_below h.0 h.1
 
@@ -163,7 +167,7 @@ module _ (s : Setting) (c k : ℕ) (q : Pair) (p : ℕ) (low : k < s.geometry.no
 
   -- the place
   place_kind : kind s.geometry (stored s c k q) (on_slot c own 0 (word_of Pending b)) ≡ Some Place
-  place_kind = ap (kind_of_role s.geometry (stored s c k q) (on_slot c own 0 (word_of Pending b))) role_stored ∙ (λ i. slot_kind (content-0 i) (says Pending i))
+  place_kind = ap (kind_of_role s.geometry (stored s c k q) (on_slot c own 0 (word_of Pending b))) judged_stored ∙ (λ i. slot_kind (content-0 i) (says Pending i))
 
   within : own < s.geometry.words
   within = let ends = (first_in_words s.geometry t t (in_first t (omega arith) (omega arith))).1 in let inside = slot_inside p is_place in omega (arith, ends, inside)
@@ -172,18 +176,17 @@ module _ (s : Setting) (c k : ℕ) (q : Pair) (p : ℕ) (low : k < s.geometry.no
   place_meets = record {
     within = within;
     stands = empty_stored p is_place;
-    row = subst (λ r. Row s (stored s c k q) (on_slot c own 0 (word_of Pending b)) r (kind s.geometry (stored s c k q) (on_slot c own 0 (word_of Pending b)))) (sym role_stored)
+    row = subst (λ r. Row s (stored s c k q) (on_slot c own 0 (word_of Pending b)) r (kind s.geometry (stored s c k q) (on_slot c own 0 (word_of Pending b)))) (sym judged_stored)
         (subst (λ o. Row s (stored s c k q) (on_slot c own 0 (word_of Pending b)) (SlotWord t p) o) (sym place_kind) (record {
           body = b;
           pair = q;
           word = says Pending;
+          slot = record { candidate = candidate; chain = starts };
+          filling = λ f. absurd (subst IsFilling plain_stored f);
           fresh = record {
             packs = packs_stored;
             print = refl;
             unpublished = λ a from to. whole.1.published a;
-            candidate = candidate;
-            chain = starts;
-            filling = λ f. absurd (subst IsFilling plain_stored f);
             taken = λ a from to. whole.1.taken a from to;
           };
         }));
@@ -206,9 +209,12 @@ module _ (s : Setting) (c k : ℕ) (q : Pair) (p : ℕ) (low : k < s.geometry.no
   role_placed : role s.geometry (placed_in s c k q p) own ≡ SlotWord t p
   role_placed = role_stays s.geometry (stored s c k q) (on_slot c own 0 (word_of Pending b)) own t (table_stored own (omega arith) (slot_inside p is_place)) ∙ role_stored
 
+  judged_placed : judged_role s.geometry (placed_in s c k q p) own ≡ SlotWord t p
+  judged_placed = judged_is s.geometry (placed_in s c k q p) (sound s (placed_in s c k q p) place_legal) own ∙ role_placed
+
   commit_kind : kind s.geometry (placed_in s c k q p) (on_slot c own (word_of Pending b) (word_of Live b)) ≡ Some Commit
   commit_kind =
-      ap (kind_of_role s.geometry (placed_in s c k q p) (on_slot c own (word_of Pending b) (word_of Live b))) role_placed
+      ap (kind_of_role s.geometry (placed_in s c k q p) (on_slot c own (word_of Pending b) (word_of Live b))) judged_placed
       ∙ (λ i. slot_kind (says Pending i) (says Live i)) ∙ ap (λ f. only_if f Commit) (same_itself b)
 
   -- the sweep reads every other candidate at the Place, and nothing stands there
@@ -285,7 +291,7 @@ module _ (s : Setting) (c k : ℕ) (q : Pair) (p : ℕ) (low : k < s.geometry.no
   commit_meets = record {
     within = within;
     stands = word_put s.geometry (stored s c k q) (on_slot c own 0 (word_of Pending b)) own refl;
-    row = subst (λ r. Row s (placed_in s c k q p) (on_slot c own (word_of Pending b) (word_of Live b)) r (kind s.geometry (placed_in s c k q p) (on_slot c own (word_of Pending b) (word_of Live b)))) (sym role_placed)
+    row = subst (λ r. Row s (placed_in s c k q p) (on_slot c own (word_of Pending b) (word_of Live b)) r (kind s.geometry (placed_in s c k q p) (on_slot c own (word_of Pending b) (word_of Live b)))) (sym judged_placed)
         (subst (λ o. Row s (placed_in s c k q p) (on_slot c own (word_of Pending b) (word_of Live b)) (SlotWord t p) o) (sym commit_kind) (record {
           body = b;
           pair = q;

@@ -14,7 +14,8 @@ use Rattle.race_laws.specs.Rows.{IsPlace, LinkRow}
 use Rattle.race_laws.specs.Legal.{Meets, Legal}
 use Rattle.race_laws.proofs.Step.{SlotStep, HeaderStep, BucketStep, LockStep}
 use Rattle.race_laws.proofs.Touch.{word_put, touched}
-use Rattle.race_laws.proofs.Sound.{Sound}
+use Rattle.verb_log.specs.Fits.{IsAddress}
+use Rattle.race_laws.proofs.Sound.{Sound, judged_is}
 use Rattle.race_laws.proofs.SoundStep.{sound}
 use Rattle.race_laws.proofs.Covers.{table_before}
 use Rattle.race_laws.proofs.Slots.{slot_is}
@@ -44,27 +45,27 @@ module _ (g : Geometry) (past : Past) (so : Sound g past) (t : ℕ) (h : IsTable
 -- what an entry does to the words of a table: nothing, or one of its steps
 module _ (s : Setting) (past : Past) (e : Entry) (m : Meets s past e) (so : Sound s.geometry past) (t : ℕ) (h : IsTable s.geometry past t) where
   pub birth_kept : birth_in s.geometry (e ∷ past) t ≡ birth_in s.geometry past t
-  birth_kept = ap birth (⊎_elim (λ (x : word_at s.geometry (e ∷ past) t ≡ word_at s.geometry past t). x) (λ x. absurd x.1) (touched s past e t (BirthWord t) m (birth_is s.geometry past so t h)))
+  birth_kept = ap birth (⊎_elim (λ (x : word_at s.geometry (e ∷ past) t ≡ word_at s.geometry past t). x) (λ x. absurd x.1) (touched s past e t (BirthWord t) m (judged_is s.geometry past so t ∙ birth_is s.geometry past so t h)))
 
   pub header_cases : (header_in s.geometry (e ∷ past) t ≡ header_in s.geometry past t) ⊎ ((header_in s.geometry (e ∷ past) t ≡ header e.new) × (header_at t ≡ e.at) × HeaderStep s past e t)
   header_cases = ⊎_elim (λ (x : word_at s.geometry (e ∷ past) (header_at t) ≡ word_at s.geometry past (header_at t)). inl (ap header x))
-      (λ x. inr (ap header (word_put s.geometry past e (header_at t) x.0), x.0, x.1)) (touched s past e (header_at t) (HeaderWord t) m (header_is s.geometry past so t h))
+      (λ x. inr (ap header (word_put s.geometry past e (header_at t) x.0), x.0, x.1)) (touched s past e (header_at t) (HeaderWord t) m (judged_is s.geometry past so (header_at t) ∙ header_is s.geometry past so t h))
 
   pub bucket_cases : (n : ℕ) → n < 2 * s.geometry.groups → (bucket_in s.geometry (e ∷ past) t n ≡ bucket_in s.geometry past t n) ⊎ ((bucket_in s.geometry (e ∷ past) t n ≡ header e.new) × (bucket_header_at t n ≡ e.at) × BucketStep s past e t)
   bucket_cases n k = ⊎_elim (λ (x : word_at s.geometry (e ∷ past) (bucket_header_at t n) ≡ word_at s.geometry past (bucket_header_at t n)). inl (ap header x))
-      (λ x. inr (ap header (word_put s.geometry past e (bucket_header_at t n) x.0), x.0, x.1)) (touched s past e (bucket_header_at t n) (BucketWord t n) m (bucket_is s.geometry past so t h n k))
+      (λ x. inr (ap header (word_put s.geometry past e (bucket_header_at t n) x.0), x.0, x.1)) (touched s past e (bucket_header_at t n) (BucketWord t n) m (judged_is s.geometry past so (bucket_header_at t n) ∙ bucket_is s.geometry past so t h n k))
 
   pub lock_cases : (lock_in s.geometry (e ∷ past) t ≡ lock_in s.geometry past t) ⊎ ((lock_in s.geometry (e ∷ past) t ≡ e.new) × (lock_at t ≡ e.at) × LockStep s past e t)
   lock_cases = ⊎_elim (λ (x : word_at s.geometry (e ∷ past) (lock_at t) ≡ word_at s.geometry past (lock_at t)). inl x)
-      (λ x. inr (word_put s.geometry past e (lock_at t) x.0, x.0, x.1)) (touched s past e (lock_at t) (LockWord t) m (lock_is s.geometry past so t h))
+      (λ x. inr (word_put s.geometry past e (lock_at t) x.0, x.0, x.1)) (touched s past e (lock_at t) (LockWord t) m (judged_is s.geometry past so (lock_at t) ∙ lock_is s.geometry past so t h))
 
-  pub child_cases : (i : ℕ) → i < 16 → (child_in s.geometry (e ∷ past) t i ≡ child_in s.geometry past t i) ⊎ ((child_in s.geometry (e ∷ past) t i ≡ e.new) × (child_at t i ≡ e.at) × (child_in s.geometry past t i ≡ 0) × (e.new ≢ 0) × LinkRow s.geometry past e t i)
+  pub child_cases : (i : ℕ) → i < 16 → (child_in s.geometry (e ∷ past) t i ≡ child_in s.geometry past t i) ⊎ ((child_in s.geometry (e ∷ past) t i ≡ e.new) × (child_at t i ≡ e.at) × (child_in s.geometry past t i ≡ 0) × IsAddress s.geometry e.new × LinkRow s.geometry past e t i)
   child_cases i k = ⊎_elim (λ (x : word_at s.geometry (e ∷ past) (child_at t i) ≡ word_at s.geometry past (child_at t i)). inl x)
-      (λ x. inr (word_put s.geometry past e (child_at t i) x.0, x.0, ap (word_at s.geometry past) x.0 ∙ x.1.0, x.1.1, x.1.2)) (touched s past e (child_at t i) (ChildWord t i) m (child_is s.geometry past so t h i k))
+      (λ x. inr (word_put s.geometry past e (child_at t i) x.0, x.0, ap (word_at s.geometry past) x.0 ∙ x.1.0, x.1.1, x.1.2)) (touched s past e (child_at t i) (ChildWord t i) m (judged_is s.geometry past so (child_at t i) ∙ child_is s.geometry past so t h i k))
 
   pub slot_cases : (p : ℕ) → IsPlace s.geometry p → (place_in s.geometry (e ∷ past) t p ≡ place_in s.geometry past t p) ⊎ ((place_in s.geometry (e ∷ past) t p ≡ content e.new) × (slot_at t p ≡ e.at) × SlotStep s past e t p)
   slot_cases p k = ⊎_elim (λ (x : word_at s.geometry (e ∷ past) (slot_at t p) ≡ word_at s.geometry past (slot_at t p)). inl (ap content x))
-      (λ x. inr (ap content (word_put s.geometry past e (slot_at t p) x.0), x.0, x.1)) (touched s past e (slot_at t p) (SlotWord t p) m (slot_is s.geometry past so t p h k))
+      (λ x. inr (ap content (word_put s.geometry past e (slot_at t p) x.0), x.0, x.1)) (touched s past e (slot_at t p) (SlotWord t p) m (judged_is s.geometry past so (slot_at t p) ∙ slot_is s.geometry past so t p h k))
 
   -- a child word that is set stays
   pub child_stays : (i : ℕ) → i < 16 → child_in s.geometry past t i ≢ 0 → child_in s.geometry (e ∷ past) t i ≡ child_in s.geometry past t i

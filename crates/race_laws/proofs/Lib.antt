@@ -7,6 +7,8 @@ pub mod Sound
 pub mod Slots
 pub mod RegionsStep
 pub mod SoundStep
+pub mod Published
+pub mod OneRow
 pub mod Frames
 pub mod Finality
 pub mod Splits
@@ -18,7 +20,7 @@ pub mod Passes
 pub mod Pending
 pub mod Clear
 pub mod Chain
-pub mod Seats
+pub mod Candidates
 pub mod Homes
 pub mod Tracks
 pub mod Paths

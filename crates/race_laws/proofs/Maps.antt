@@ -17,7 +17,7 @@ use Rattle.verb_log.specs.declared.entry.Entry.{Entry}
 use Rattle.verb_log.specs.declared.kind.Kind.{Kind}
 use Rattle.verb_log.specs.declared.kind.Kind.TheVariants.{Store, Take, Place, Drop, Commit, Replace, Remove, Lock, Unlock, Link, Begin, Open, Copy, Uncopy, Flip, Settle, Clear, Finish, Close, Ripen, Name, Deepen}
 use Rattle.verb_log.specs.Decoded.{Body, Empty, Full, content}
-use Rattle.verb_log.specs.Tables.{Past, Before, word_at, pair_at, role}
+use Rattle.verb_log.specs.Tables.{Past, Before, word_at, pair_at, role, judged_role}
 use Rattle.verb_log.specs.Kinds.{kind}
 use Rattle.verb_log.specs.Changes.{pair_in, set_to, gone, changes_by, changes}
 use Rattle.race_laws.specs.Setting.{Setting}
@@ -26,7 +26,7 @@ use Rattle.race_laws.specs.Rows.{IsPlace}
 use Rattle.race_laws.specs.Legal.{Legal}
 use Rattle.race_laws.proofs.Step.{StepAt, step_of, SlotStep, place, drop, commit, replace, remove, copy, uncopy, flip, settle, clear}
 use Rattle.race_laws.proofs.Touch.{word_put, table_stays}
-use Rattle.race_laws.proofs.Sound.{Sound}
+use Rattle.race_laws.proofs.Sound.{Sound, judged_is}
 use Rattle.race_laws.proofs.SoundStep.{sound, sounds, fresh_packs}
 use Rattle.race_laws.proofs.Slots.{slot_place_of, standing_named, full_same}
 use Rattle.race_laws.proofs.RegionsStep.{packs_kept}
@@ -123,16 +123,16 @@ module _ (s : Setting) (q : Past) (e : Entry) (l : Legal s (e ∷ q)) where
   removes t p r kd (clear c i o n row) = absurd (cc)
 
   step_at_slot : (t p : ℕ) → role s.geometry q e.at ≡ SlotWord t p → SlotStep s q e t p
-  step_at_slot t p r = subst (StepAt s q e) r (step_of s q e l.1)
+  step_at_slot t p r = subst (StepAt s q e) (judged_is s.geometry q so e.at ∙ r) (step_of s q e l.1)
 
   none_of : (o : Option Kind) → kind s.geometry q e ≡ o → changes_by s.geometry q e o ≡ [] → o ≢ Some Commit → o ≢ Some Replace → o ≢ Some Remove → Effect s q e
   none_of o kd d a b c = nothing (ap (changes_by s.geometry q e) kd ∙ d) (λ v. a (sym kd ∙ v)) (λ v. b (sym kd ∙ v)) (λ v. c (sym kd ∙ v))
 
   effect_of : (o : Option Kind) → kind s.geometry q e ≡ o → Effect s q e
   effect_of None kd = none_of None kd refl (λ v. cc) (λ v. cc) (λ v. cc)
-  effect_of (Some Commit) kd = let x = on_slot s.geometry q e (role s.geometry q e.at) Commit refl kd in commits x.0 x.1 x.2 kd (step_at_slot x.0 x.1 x.2)
-  effect_of (Some Replace) kd = let x = on_slot s.geometry q e (role s.geometry q e.at) Replace refl kd in replaces x.0 x.1 x.2 kd (step_at_slot x.0 x.1 x.2)
-  effect_of (Some Remove) kd = let x = on_slot s.geometry q e (role s.geometry q e.at) Remove refl kd in removes x.0 x.1 x.2 kd (step_at_slot x.0 x.1 x.2)
+  effect_of (Some Commit) kd = let x = on_slot s.geometry q e (judged_role s.geometry q e.at) Commit refl kd in let r = sym (judged_is s.geometry q so e.at) ∙ x.2 in commits x.0 x.1 r kd (step_at_slot x.0 x.1 r)
+  effect_of (Some Replace) kd = let x = on_slot s.geometry q e (judged_role s.geometry q e.at) Replace refl kd in let r = sym (judged_is s.geometry q so e.at) ∙ x.2 in replaces x.0 x.1 r kd (step_at_slot x.0 x.1 r)
+  effect_of (Some Remove) kd = let x = on_slot s.geometry q e (judged_role s.geometry q e.at) Remove refl kd in let r = sym (judged_is s.geometry q so e.at) ∙ x.2 in removes x.0 x.1 r kd (step_at_slot x.0 x.1 r)
   effect_of (Some Store) kd = none_of (Some Store) kd refl (λ v. cc) (λ v. cc) (λ v. cc)
   effect_of (Some Take) kd = none_of (Some Take) kd refl (λ v. cc) (λ v. cc) (λ v. cc)
   effect_of (Some Place) kd = none_of (Some Place) kd refl (λ v. cc) (λ v. cc) (λ v. cc)

@@ -13,7 +13,7 @@ use Rattle.verb_log.specs.Decoded.{Body, Full, content, Header, PlainAt, Splitti
 use Rattle.verb_log.specs.Tables.{Past, Before, here, later, word_at, pair_at}
 use Rattle.race_laws.specs.Setting.{Setting, hash}
 use Rattle.race_laws.specs.Standing.{IsTable, header_in, child_in, place_in, depth, IsFilling, IsGone, Exits}
-use Rattle.race_laws.specs.Chains.{OnChain}
+use Rattle.race_laws.specs.Chains.{IsCandidate, OnChain}
 use Rattle.race_laws.specs.Rows.{IsPlace, CommitRow}
 use Rattle.race_laws.specs.Legal.{Legal}
 use Rattle.race_laws.proofs.Positions.{before_same}
@@ -26,7 +26,7 @@ use Rattle.race_laws.proofs.TablesStep.{filling_depth}
 use Rattle.race_laws.proofs.Opening.{splits}
 use Rattle.race_laws.proofs.Clear.{copy_fills}
 use Rattle.race_laws.proofs.Chain.{born_at, born_before, Further, chain_table, chain_same, way_down, further_born, filling_last}
-use Rattle.race_laws.proofs.Seats.{Seat, seats, not_left}
+use Rattle.race_laws.proofs.Candidates.{word_candidate, not_left}
 use Rattle.race_laws.proofs.Homes.{parent_of, Stands, as_live, as_copy, Home, Somewhere, Was, there, flipped, committed, was, Alone, one_home}
 
 -- a key gone from a table with a further table that does not fill has left it
@@ -58,20 +58,20 @@ gone_left s z l h t u c d ripe b =
     by (FillingAt k) e c2 f on low tb = let x = ap depth e in let y : f.level < k = subst (λ v. IsGone v f.level) e f.gone in omega arith
     by NoHeader e c2 f on low tb = absurd (subst (λ v. IsGone v f.level) e f.gone)
 
--- the seat of a home
-pub home_seat : (s : Setting) (q : Past) → Legal s q → (key : List ℕ) (t p : ℕ) (b : Body) (pr : Pair) → Home s q key t p b pr → Seat s q t p key
-home_seat s q l key t p b pr x = subst (Seat s q t p) x.same_key (by x.stands)
+-- the place_there of a home
+pub home_candidate : (s : Setting) (q : Past) → Legal s q → (key : List ℕ) (t p : ℕ) (b : Body) (pr : Pair) → Home s q key t p b pr → IsCandidate s q t p key
+home_candidate s q l key t p b pr x = subst (IsCandidate s q t p) x.same_key (by x.stands)
   where
-    by : Stands s.geometry q t p b → Seat s q t p pr.key
-    by (as_live w) = seats s q l q here t p Live b pr x.table x.place (record { stands = w; packs = x.packs })
-    by (as_copy w m) = seats s q l q here t p Copied b pr x.table x.place (record { stands = w; packs = x.packs })
+    by : Stands s.geometry q t p b → IsCandidate s q t p pr.key
+    by (as_live w) = word_candidate s q l q here t p Live b pr x.table x.place (record { stands = w; packs = x.packs })
+    by (as_copy w m) = word_candidate s q l q here t p Copied b pr x.table x.place (record { stands = w; packs = x.packs })
 
 -- a home is not above a table of the chain that does not fill
 pub home_not_above : (s : Setting) (q : Past) → Legal s q → (key : List ℕ) (t p : ℕ) (b : Body) (pr : Pair) → Home s q key t p b pr → (u : ℕ) → OnChain s.geometry q (hash s key) u → (IsFilling (header_in s.geometry q u) → ⊥) → born_at s.geometry q u ≤ born_at s.geometry q t
-home_not_above s q l key t p b pr x u c ripe = by_order (seat.chain)
+home_not_above s q l key t p b pr x u c ripe = by_order (place_there.chain)
   where
-    seat : Seat s q t p key
-    seat = home_seat s q l key t p b pr x
+    place_there : IsCandidate s q t p key
+    place_there = home_candidate s q l key t p b pr x
 
     left : (i : ℕ) → exit_level (hash s key) (born_at s.geometry q t) ≡ Some i → i < depth (header_in s.geometry q t) → Stands s.geometry q t p b → ⊥
     left i ex lo (as_live w) = not_left s q l Live t p i b pr x.table x.place (record { stands = w; packs = x.packs }) (inl refl) (subst (λ v. Exits s q t v i) (sym x.same_key) ex) lo

@@ -8,7 +8,7 @@ use Rattle.node_words.specs.Addresses.{table_words, slot_at}
 use Rattle.verb_log.specs.declared.entry.Entry.{Entry}
 use Rattle.verb_log.specs.declared.kind.Kind.TheVariants.{Place}
 use Rattle.verb_log.specs.Decoded.{Body, Full, content}
-use Rattle.verb_log.specs.Tables.{Past, Before, here, later, word_at, words_at, pair_at, table_of, role, is_published}
+use Rattle.verb_log.specs.Tables.{Past, Before, here, later, word_at, words_at, pair_at, table_of, judged_role, is_published}
 use Rattle.verb_log.specs.Kinds.{kind}
 use Rattle.verb_log.proofs.Positions.{Before-trans}
 use Rattle.race_laws.specs.Setting.{Setting}
@@ -20,7 +20,8 @@ use Rattle.race_laws.specs.Legal.{Meets, Legal}
 use Rattle.race_laws.proofs.Positions.{legal_before, before_total}
 use Rattle.race_laws.proofs.Step.{SlotStep, place, drop, commit, replace, remove, copy, uncopy, flip, settle, clear}
 use Rattle.race_laws.proofs.Touch.{word_put, table_stays}
-use Rattle.race_laws.proofs.Sound.{Sound, Named}
+use Rattle.race_laws.specs.Named.{Named}
+use Rattle.race_laws.proofs.Sound.{Sound, judged_is}
 use Rattle.race_laws.proofs.SoundStep.{sound, named_at, packs_later}
 use Rattle.race_laws.proofs.Covers.{table_before}
 use Rattle.race_laws.proofs.Slots.{slot_is, slot_place_of, standing_named, full_same, some_same}
@@ -54,8 +55,8 @@ pub record WasPlaced (g : Geometry) (before : Past) (placed : Entry) (t p : ℕ)
 
 pub was_placed : (s : Setting) (before : Past) (placed : Entry) → Sound s.geometry before → kind s.geometry before placed ≡ Some Place → (t p : ℕ) × WasPlaced s.geometry before placed t p
 was_placed s before placed so k =
-    let x = on_slot s.geometry before placed (role s.geometry before placed.at) Place refl k in
-    let y = slot_place_of s.geometry before so placed.at x.0 x.1 x.2 in
+    let x = on_slot s.geometry before placed (judged_role s.geometry before placed.at) Place refl k in
+    let y = slot_place_of s.geometry before so placed.at x.0 x.1 (sym (judged_is s.geometry before so placed.at) ∙ x.2) in
     (x.0, x.1, record { table = so.whole placed.at x.0 y.2 x.0 (omega arith) (low x.0); place = y.0; at = sym y.1 })
   where
     low : (t : ℕ) → t < t + table_words s.geometry

@@ -13,7 +13,7 @@ use Rattle.verb_log.specs.Decoded.{Body, Empty, Full, content}
 use Rattle.verb_log.specs.Tables.{Past, Before, here, later, word_at, pair_at}
 use Rattle.race_laws.specs.Setting.{Setting, hash, places}
 use Rattle.race_laws.specs.Standing.{IsTable, header_in, birth_in, child_in, place_in, depth, Exits, IsIn}
-use Rattle.race_laws.specs.Chains.{Holder, live, copied}
+use Rattle.race_laws.specs.Chains.{IsCandidate, Holder, live, copied}
 use Rattle.race_laws.specs.Splits.{IsOpen}
 use Rattle.race_laws.specs.Rows.{IsPlace, CopyRow, ClearRow}
 use Rattle.race_laws.specs.Legal.{Legal}
@@ -28,9 +28,9 @@ use Rattle.race_laws.proofs.Splits.{new_table, new_slot}
 use Rattle.race_laws.proofs.Opening.{splits}
 use Rattle.race_laws.proofs.Passes.{exits_later}
 use Rattle.race_laws.proofs.Chain.{chain_table}
-use Rattle.race_laws.proofs.Seats.{Seat, moved_splits}
+use Rattle.race_laws.proofs.Candidates.{moved_splits}
 use Rattle.race_laws.proofs.Homes.{parent_of, parent_table, Stands, as_live, as_copy, Home}
-use Rattle.race_laws.proofs.Paths.{home_seat}
+use Rattle.race_laws.proofs.Paths.{home_candidate}
 
 -- a place among a key's candidates is a slot's
 IsIn-Contains : (p : ℕ) (xs : List ℕ) → IsIn p xs → Contains xs p
@@ -45,9 +45,9 @@ candidate_place s key p h = candidates_slots s.geometry.groups (hash s key) p (p
 
 -- a home is the holder, and the holder a home
 pub home_holder : (s : Setting) (q : Past) → Legal s q → (key : List ℕ) (t p : ℕ) (b : Body) (pr : Pair) → Home s q key t p b pr → Holder s q key t p b pr
-home_holder s q l key t p b pr hm = by hm.stands (home_seat s q l key t p b pr hm)
+home_holder s q l key t p b pr hm = by hm.stands (home_candidate s q l key t p b pr hm)
   where
-    by : Stands s.geometry q t p b → Seat s q t p key → Holder s q key t p b pr
+    by : Stands s.geometry q t p b → IsCandidate s q t p key → Holder s q key t p b pr
     by (as_live w) st = live t p b pr (record { stands = w; packs = hm.packs }) hm.same_key st.candidate st.chain
     by (as_copy w m) st = copied t p b pr (record { stands = w; packs = hm.packs }) hm.same_key st.candidate hm.table (parent_table s q l t p b hm.table hm.place w) m
 

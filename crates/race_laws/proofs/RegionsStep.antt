@@ -10,13 +10,14 @@ use Rattle.node_words.proofs.FirstTables.{IsInFirst}
 use Rattle.node_words.proofs.RoleLemmas.{next_below}
 use Rattle.verb_log.specs.declared.entry.Entry.{Entry}
 use Rattle.verb_log.specs.Decoded.{Body, content}
-use Rattle.verb_log.specs.Tables.{Past, Before, word_at, words_at, pair_at, is_among, table_of, role, or_else, links, linked_by, is_taken, moves_across, is_published, publishes, covers}
+use Rattle.verb_log.specs.Tables.{Past, Before, word_at, words_at, pair_at, is_among, is_address, table_of, role, judged_role, or_else, links, linked_by, is_taken, moves_across, is_published, publishes, covers}
 use Rattle.race_laws.specs.Setting.{Setting, base}
 use Rattle.race_laws.specs.Legal.{Meets}
 use Rattle.race_laws.proofs.Step.{StepAt, step_of, SlotStep, place, drop, commit, replace, remove, copy, uncopy, flip, settle, clear}
 use Rattle.race_laws.proofs.Touch.{word_put, touched, table_stays, taken_stays, published_stays, or_either, and_both, taken_by_someone}
 use Rattle.race_laws.proofs.Regions.{node_end, node_between}
-use Rattle.race_laws.proofs.Sound.{IsTakenAt, Named, Sound, next_is, fresh_none, named_heap}
+use Rattle.race_laws.specs.Named.{Named}
+use Rattle.race_laws.proofs.Sound.{judged_is, IsTakenAt, Sound, next_is, fresh_none, named_heap}
 use Rattle.race_laws.proofs.Covers.{among, covered, covers_none, linked_is, linked_to, links_child, links_publish, moved_by, or_left, published_before}
 use Rattle.race_laws.proofs.Slots.{slot_place_of, standing_named}
 
@@ -31,7 +32,7 @@ words_kept g past e a (suc n) k =
 module _ (s : Setting) (past : Past) (e : Entry) (m : Meets s past e) (so : Sound s.geometry past) (ss : (at : Past) → Before at past → Sound s.geometry at) where
   -- what the entry is
   at_role : (r : Role) → role s.geometry past e.at ≡ r → StepAt s past e r
-  at_role r h = subst (StepAt s past e) h (step_of s past e m)
+  at_role r h = subst (StepAt s past e) (judged_is s.geometry past so e.at ∙ h) (step_of s past e m)
 
   pub next_grows : (k : ℕ) → k < s.geometry.nodes → (word_at s.geometry past (node_at s.geometry k) ≤ word_at s.geometry (e ∷ past) (node_at s.geometry k)) × (word_at s.geometry (e ∷ past) (node_at s.geometry k) ≤ node_at s.geometry k + node_size s.geometry)
   next_grows k h = ⊎_elim
@@ -42,7 +43,7 @@ module _ (s : Setting) (past : Past) (e : Entry) (m : Meets s past e) (so : Soun
       let within = x.1.1.within in
       let n = node_end s.geometry k in
       (omega arith, omega arith))
-      (touched s past e (node_at s.geometry k) (NextWord k) m (next_is s.geometry past so k h))
+      (touched s past e (node_at s.geometry k) (NextWord k) m (judged_is s.geometry past so (node_at s.geometry k) ∙ next_is s.geometry past so k h))
 
   -- a taken address of the log one longer
   taken_now : (a k : ℕ) → role s.geometry past e.at ≡ NextWord k → e.old ≤ a → a < e.new → IsTakenAt s.geometry (e ∷ past) a
@@ -65,14 +66,14 @@ module _ (s : Setting) (past : Past) (e : Entry) (m : Meets s past e) (so : Soun
 
   pub taken_step : (a : ℕ) → is_taken s.geometry (e ∷ past) a ≡ true → IsTakenAt s.geometry (e ∷ past) a
   taken_step a h = ⊎_elim
-      (λ (x : moves_across e (role s.geometry past e.at) a ≡ true). let y = moved_by e (role s.geometry past e.at) a x in taken_now a y.0 y.1 y.2 y.3)
+      (λ (x : moves_across s.geometry e (judged_role s.geometry past e.at) a ≡ true). let y = moved_by s.geometry e (judged_role s.geometry past e.at) a x in taken_now a y.0 (sym (judged_is s.geometry past so e.at) ∙ y.1) y.2 y.3)
       (λ (x : is_taken s.geometry past a ≡ true).
       let t = so.taken a x in
       let n = next_grows (node_of s.geometry a) t.node in
       let to = t.to in
       let longer : a < word_at s.geometry (e ∷ past) (node_at s.geometry (node_of s.geometry a)) = omega arith in
       record { node = t.node; from = t.from; to = longer })
-      (or_either (moves_across e (role s.geometry past e.at) a) (is_taken s.geometry past a) h)
+      (or_either (moves_across s.geometry e (judged_role s.geometry past e.at) a) (is_taken s.geometry past a) h)
 
   -- the words of a block that an entry puts into a slot were taken
   slot_taken : (t p a : ℕ) → role s.geometry past e.at ≡ SlotWord t p → SlotStep s past e t p → covers (content e.new) a ≡ true → is_taken s.geometry past a ≡ true
@@ -100,7 +101,7 @@ module _ (s : Setting) (past : Past) (e : Entry) (m : Meets s past e) (so : Soun
   publishes_taken (LockWord t) q st a h = cc
   publishes_taken ReservedWord q st a h = cc
   publishes_taken (ChildWord t i) q st a h =
-      let x = and_both (not (e.new == 0)) (is_among e.new (table_words s.geometry) a) h in
+      let x = and_both (is_address s.geometry e.new) (is_among e.new (table_words s.geometry) a) h in
       let y = among e.new (table_words s.geometry) a x.1 in
       taken_by_someone s.geometry past e.client a (st.2.taken a y.0 y.1)
   publishes_taken (BucketWord t n) q st a h = cc
@@ -109,28 +110,28 @@ module _ (s : Setting) (past : Past) (e : Entry) (m : Meets s past e) (so : Soun
 
   pub published_step : (a : ℕ) → is_published s.geometry (e ∷ past) a ≡ true → is_taken s.geometry (e ∷ past) a ≡ true
   published_step a h = taken_stays s.geometry past e a (⊎_elim
-      (λ (x : publishes s.geometry e (role s.geometry past e.at) a ≡ true). publishes_taken (role s.geometry past e.at) refl (step_of s past e m) a x)
+      (λ (x : publishes s.geometry e (role s.geometry past e.at) a ≡ true). publishes_taken (role s.geometry past e.at) refl (at_role (role s.geometry past e.at) refl) a x)
       (λ (x : is_published s.geometry past a ≡ true). so.published a x)
       (or_either (publishes s.geometry e (role s.geometry past e.at) a) (is_published s.geometry past a) h))
 
   -- the region that an entry links was in no table, and published nowhere
-  pub link_row : links e (role s.geometry past e.at) ≡ true → (a : ℕ) → e.new ≤ a → a < e.new + table_words s.geometry → (table_of s.geometry past a ≡ None) × (is_published s.geometry past a ≡ false)
+  pub link_row : links s.geometry e (judged_role s.geometry past e.at) ≡ true → (a : ℕ) → e.new ≤ a → a < e.new + table_words s.geometry → (table_of s.geometry past a ≡ None) × (is_published s.geometry past a ≡ false)
   link_row h a k l =
-      let x = links_child e (role s.geometry past e.at) h in
-      let row = (at_role (ChildWord x.0 x.1) x.2).2 in
+      let x = links_child s.geometry e (judged_role s.geometry past e.at) h in
+      let row = (at_role (ChildWord x.0 x.1) (sym (judged_is s.geometry past so e.at) ∙ x.2)).2 in
       let u = row.unpublished a k l in
       (fresh_none s.geometry past so a (taken_by_someone s.geometry past e.client a (row.taken a k l)) u, u)
 
   -- the table of an address of the log one longer
-  pub table_cases : (a t : ℕ) → table_of s.geometry (e ∷ past) a ≡ Some t → (table_of s.geometry past a ≡ Some t) ⊎ ((links e (role s.geometry past e.at) ≡ true) × (e.new ≤ a) × (a < e.new + table_words s.geometry) × (t ≡ e.new))
+  pub table_cases : (a t : ℕ) → table_of s.geometry (e ∷ past) a ≡ Some t → (table_of s.geometry past a ≡ Some t) ⊎ ((links s.geometry e (judged_role s.geometry past e.at) ≡ true) × (e.new ≤ a) × (a < e.new + table_words s.geometry) × (t ≡ e.new))
   table_cases a t h = by (table_of s.geometry past a) refl
     where
-      by : (o : Option ℕ) → table_of s.geometry past a ≡ o → (table_of s.geometry past a ≡ Some t) ⊎ ((links e (role s.geometry past e.at) ≡ true) × (e.new ≤ a) × (a < e.new + table_words s.geometry) × (t ≡ e.new))
-      by None q = inr (linked_is s.geometry e (role s.geometry past e.at) a t (sym (ap (λ o. or_else o (linked_by s.geometry e (role s.geometry past e.at) a)) q) ∙ h))
-      by (Some u) q = inl (q ∙ sym (ap (λ o. or_else o (linked_by s.geometry e (role s.geometry past e.at) a)) q) ∙ h)
+      by : (o : Option ℕ) → table_of s.geometry past a ≡ o → (table_of s.geometry past a ≡ Some t) ⊎ ((links s.geometry e (judged_role s.geometry past e.at) ≡ true) × (e.new ≤ a) × (a < e.new + table_words s.geometry) × (t ≡ e.new))
+      by None q = inr (linked_is s.geometry e (judged_role s.geometry past e.at) a t (sym (ap (λ o. or_else o (linked_by s.geometry e (judged_role s.geometry past e.at) a)) q) ∙ h))
+      by (Some u) q = inl (q ∙ sym (ap (λ o. or_else o (linked_by s.geometry e (judged_role s.geometry past e.at) a)) q) ∙ h)
 
-  pub linked_now : links e (role s.geometry past e.at) ≡ true → (a : ℕ) → e.new ≤ a → a < e.new + table_words s.geometry → table_of s.geometry (e ∷ past) a ≡ Some e.new
-  linked_now h a k l = ap (λ o. or_else o (linked_by s.geometry e (role s.geometry past e.at) a)) (link_row h a k l).0 ∙ linked_to s.geometry e (role s.geometry past e.at) a h k l
+  pub linked_now : links s.geometry e (judged_role s.geometry past e.at) ≡ true → (a : ℕ) → e.new ≤ a → a < e.new + table_words s.geometry → table_of s.geometry (e ∷ past) a ≡ Some e.new
+  linked_now h a k l = ap (λ o. or_else o (linked_by s.geometry e (judged_role s.geometry past e.at) a)) (link_row h a k l).0 ∙ linked_to s.geometry e (judged_role s.geometry past e.at) a h k l
 
   pub tables_step : (a t : ℕ) → table_of s.geometry (e ∷ past) a ≡ Some t → (t ≤ a) × (a < t + table_words s.geometry) × (IsInFirst s.geometry a t ⊎ (is_published s.geometry (e ∷ past) a ≡ true))
   tables_step a t h = ⊎_elim
@@ -140,7 +141,7 @@ module _ (s : Setting) (past : Past) (e : Entry) (m : Meets s past e) (so : Soun
       (λ x. (
         subst (λ v. v ≤ a) (sym x.3) x.1,
         subst (λ v. a < v + table_words s.geometry) (sym x.3) x.2,
-        inr (or_left (publishes s.geometry e (role s.geometry past e.at) a) (is_published s.geometry past a) (links_publish s.geometry e (role s.geometry past e.at) a x.0 x.1 x.2)),
+        inr (or_left (publishes s.geometry e (role s.geometry past e.at) a) (is_published s.geometry past a) (links_publish s.geometry e (role s.geometry past e.at) a (ap (λ (r : Role). links s.geometry e r) (sym (judged_is s.geometry past so e.at)) ∙ x.0) x.1 x.2)),
       ))
       (table_cases a t h)
 
@@ -153,7 +154,7 @@ module _ (s : Setting) (past : Past) (e : Entry) (m : Meets s past e) (so : Soun
   -- a heap word that is published keeps its word
   pub heap_kept : (a : ℕ) → role s.geometry past a ≡ HeapWord → is_published s.geometry past a ≡ true → word_at s.geometry (e ∷ past) a ≡ word_at s.geometry past a
   heap_kept a h p = ⊎_elim (λ (x : word_at s.geometry (e ∷ past) a ≡ word_at s.geometry past a). x)
-      (λ x. let q = ap (is_published s.geometry past) x.0 in let f = x.1.1 in absurd (cc)) (touched s past e a HeapWord m h)
+      (λ x. let q = ap (is_published s.geometry past) x.0 in let f = x.1.1 in absurd (cc)) (touched s past e a HeapWord m (judged_is s.geometry past so a ∙ h))
 
   -- a published word that stood in no table stands in none
   none_stays : (a : ℕ) → table_of s.geometry past a ≡ None → is_published s.geometry past a ≡ true → table_of s.geometry (e ∷ past) a ≡ None

@@ -7,7 +7,7 @@ use Rattle.verb_log.specs.declared.entry.Entry.{Entry}
 use Rattle.verb_log.specs.declared.kind.Kind.{Kind}
 use Rattle.verb_log.specs.declared.kind.Kind.TheVariants.{Store, Take, Place, Drop, Commit, Replace, Remove, Lock, Unlock, Link, Begin, Open, Copy, Uncopy, Flip, Settle, Clear, Finish, Close, Ripen, Name, Deepen}
 use Rattle.verb_log.specs.Decoded.{Header, PlainAt, SplittingAt, FillingAt, NoHeader, header}
-use Rattle.verb_log.specs.Tables.{Past, is_taken, is_published}
+use Rattle.verb_log.specs.Tables.{Past, is_address, is_taken, is_published}
 use Rattle.verb_log.specs.Kinds.{kind_of_role, only_if, header_kind, bucket_kind, lock_kind}
 
 -- the kinds of entries on slots
@@ -86,12 +86,12 @@ lock_no_slot e j k h = by ((e.old == 0) && (e.new == e.client + 1)) h
 pub on_slot : (g : Geometry) (past : Past) (e : Entry) (r : Role) (j : Kind) → is_slot_kind j ≡ true → kind_of_role g past e r ≡ Some j → (t : ℕ) × (p : ℕ) × (r ≡ SlotWord t p)
 on_slot g past e (NextWord k) j y h = absurd (only_no (nat_lt e.old e.new) Take j refl y h)
 on_slot g past e DepthWord j y h = absurd (only_no (e.new == e.old + 1) Deepen j refl y h)
-on_slot g past e (DirectoryWord i) j y h = absurd (only_no (not (e.new == 0)) Name j refl y h)
+on_slot g past e (DirectoryWord i) j y h = absurd (only_no (is_address g e.new) Name j refl y h)
 on_slot g past e (BirthWord t) j y h = absurd (cc)
 on_slot g past e (HeaderWord t) j y h = absurd (header_no_slot (header e.old) (header e.new) j y h)
 on_slot g past e (LockWord t) j y h = absurd (lock_no_slot e j y h)
 on_slot g past e ReservedWord j y h = absurd (cc)
-on_slot g past e (ChildWord t i) j y h = absurd (only_no ((e.old == 0) && not (e.new == 0)) Link j refl y h)
+on_slot g past e (ChildWord t i) j y h = absurd (only_no ((e.old == 0) && is_address g e.new) Link j refl y h)
 on_slot g past e (BucketWord t n) j y h = absurd (bucket_no_slot (header e.old) (header e.new) j y h)
 on_slot g past e (SlotWord t p) j y h = (t, p, refl)
 on_slot g past e HeapWord j y h = absurd (only_no (is_taken g past e.at && not (is_published g past e.at)) Store j refl y h)

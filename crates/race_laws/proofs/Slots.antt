@@ -10,7 +10,8 @@ use Rattle.verb_log.specs.Decoded.{Body, Empty, Full, content}
 use Rattle.verb_log.specs.Tables.{Past, table_of, role}
 use Rattle.race_laws.specs.Standing.{IsTable, place_in}
 use Rattle.race_laws.specs.Rows.{IsPlace}
-use Rattle.race_laws.proofs.Sound.{Named, Sound}
+use Rattle.race_laws.specs.Named.{Named}
+use Rattle.race_laws.proofs.Sound.{Sound}
 
 -- a slot's place, where its address stands in its table
 pub slot_place_of : (g : Geometry) (past : Past) → Sound g past → (a t p : ℕ) → role g past a ≡ SlotWord t p → IsPlace g p × (a ≡ slot_at t p) × (table_of g past a ≡ Some t)

@@ -1,9 +1,8 @@
 -- What every position of a legal log keeps of regions: what is taken, published and linked, and that a named block keeps
 -- its words.
-use Rattle.std.specs.Prelude.{◌≡◌, ◌≢◌, ℕ, ◌+◌, ◌<◌, ◌≤◌, true, false, Option, Some, None, ◌⊎◌, refl}
-use Rattle.std.proofs.Common.{◌∙◌, ap, arith, ⊎_elim}
+use Rattle.std.specs.Prelude.{◌≡◌, ◌≢◌, ℕ, ◌+◌, ◌<◌, ◌≤◌, Bool, true, false, Option, Some, None, ◌⊎◌, refl}
+use Rattle.std.proofs.Common.{sym, ◌∙◌, ap, arith, ⊎_elim}
 use Rattle.slot_word.specs.declared.slots.Mark.{Mark}
-use Rattle.kv_block.specs.Packing.{Pair}
 use Rattle.node_words.specs.declared.geometry.Geometry.{Geometry}
 use Rattle.node_words.specs.Addresses.{node_size, node_of, node_at, table_words}
 use Rattle.node_words.specs.Roles.{NextWord, SlotWord, HeapWord, role_in, first_table_of}
@@ -12,8 +11,9 @@ use Rattle.node_words.proofs.FirstTables.{IsInFirst, first_is}
 use Rattle.node_words.proofs.RoleLemmas.{next_role}
 use Rattle.node_words.proofs.OpeningWords.{next_apart}
 use Rattle.verb_log.specs.Decoded.{Body, Full, content}
-use Rattle.verb_log.specs.Tables.{Past, word_at, pair_at, table_of, role, is_taken, is_published}
+use Rattle.verb_log.specs.Tables.{Past, word_at, pair_at, table_of, role, is_taken, is_published, judged, judged_role}
 use Rattle.race_laws.specs.Setting.{base}
+use Rattle.race_laws.specs.Named.{Named}
 use Rattle.race_laws.proofs.Regions.{base_from, heap_none, heap_word}
 
 -- a taken word lies between its node's base and its node's next word
@@ -21,13 +21,6 @@ pub record IsTakenAt (g : Geometry) (past : Past) (a : ℕ) : Type 0 where
   pub node : node_of g a < g.nodes
   pub from : base g (node_of g a) ≤ a
   pub to : a < word_at g past (node_at g (node_of g a))
-
--- a block that some slot has named
-pub record Named (g : Geometry) (past : Past) (b : Body) : Type 0 where
-  pub pair : Pair
-  pub packs : pair_at g past b ≡ Some pair
-  pub published : (a : ℕ) → b.at ≤ a → a < b.at + b.length → is_published g past a ≡ true
-  pub outside : (a : ℕ) → b.at ≤ a → a < b.at + b.length → table_of g past a ≡ None
 
 pub record Sound (g : Geometry) (past : Past) : Type 0 where
   pub next_from : (k : ℕ) → k < g.nodes → base g k ≤ word_at g past (node_at g k)
@@ -81,6 +74,16 @@ module _ (g : Geometry) (past : Past) (so : Sound g past) where
   -- a taken word that is not published is a heap word
   pub fresh_none : (a : ℕ) → is_taken g past a ≡ true → is_published g past a ≡ false → table_of g past a ≡ None
   fresh_none a h n = table_none a (heap_none g a (so.taken a h).from) (λ x. cc)
+
+  -- the table of kinds takes each word for what it is: words of tables, next words, the depth and the directory are never
+  -- taken and unpublished
+  pub judged_is : (a : ℕ) → judged_role g past a ≡ role g past a
+  judged_is a = by (is_taken g past a) (is_published g past a) refl refl
+    where
+      by : (x y : Bool) → is_taken g past a ≡ x → is_published g past a ≡ y → judged x y (role g past a) ≡ role g past a
+      by true false h n = sym (taken_heap a h (fresh_none a h n))
+      by true true h n = refl
+      by false y h n = refl
 
   -- the words of a named block are heap words
   pub named_heap : (b : Body) → Named g past b → (a : ℕ) → b.at ≤ a → a < b.at + b.length → role g past a ≡ HeapWord

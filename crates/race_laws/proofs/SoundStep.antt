@@ -13,14 +13,15 @@ use Rattle.node_words.proofs.OpeningWords.{opening_by_role, next_apart}
 use Rattle.node_words.proofs.RoleLemmas.{next_role, child_in, slot_in}
 use Rattle.verb_log.specs.declared.entry.Entry.{Entry}
 use Rattle.verb_log.specs.Decoded.{Body, Empty, Full, content}
-use Rattle.verb_log.specs.Tables.{Past, Before, here, later, word_at, pair_at, table_of, role, links, is_taken, is_published, publishes}
+use Rattle.verb_log.specs.Tables.{Past, Before, here, later, word_at, pair_at, table_of, role, judged_role, links, is_taken, is_published, publishes}
 use Rattle.race_laws.specs.Setting.{Setting, base}
 use Rattle.race_laws.specs.Rows.{IsFresh, IsBlank}
 use Rattle.race_laws.specs.Legal.{Meets, Legal}
 use Rattle.race_laws.proofs.Step.{StepAt, step_of, SlotStep, place, drop, commit, replace, remove, copy, uncopy, flip, settle, clear}
 use Rattle.race_laws.proofs.Touch.{role_stays, word_kept, word_put, touched, taken_by_someone}
 use Rattle.race_laws.proofs.Regions.{base_to}
-use Rattle.race_laws.proofs.Sound.{Named, Sound, taken_heap, fresh_none}
+use Rattle.race_laws.specs.Named.{Named}
+use Rattle.race_laws.proofs.Sound.{judged_is, Sound, taken_heap, fresh_none}
 use Rattle.race_laws.proofs.RegionsStep.{link_row, named_kept, next_grows, packs_kept, published_step, table_cases, tables_step, taken_step, whole_step, words_kept}
 use Rattle.race_laws.proofs.Slots.{content-0, full_same, role_by_offset, slot_place_of, standing_named}
 use Rattle.race_laws.proofs.Covers.{covers_it, links_child, or_left}
@@ -32,7 +33,7 @@ named_later s (later {q = q} {e = e} h) l ss b n = named_kept s q e l.1 (ss q (l
 
 module _ (s : Setting) (past : Past) (e : Entry) (l : Legal s past) (m : Meets s past e) (so : Sound s.geometry past) (ss : (at : Past) → Before at past → Sound s.geometry at) where
   -- the words of a fresh block are not the entry's
-  fresh_apart : (t p c : ℕ) (b : Body) (q : Pair) → role s.geometry past e.at ≡ SlotWord t p → IsFresh s past c t p b q → (a : ℕ) → b.at ≤ a → a < b.at + b.length → a ≢ e.at
+  fresh_apart : (t p c : ℕ) (b : Body) (q : Pair) → role s.geometry past e.at ≡ SlotWord t p → IsFresh s past c b q → (a : ℕ) → b.at ≤ a → a < b.at + b.length → a ≢ e.at
   fresh_apart t p c b q r f a h k x =
       let taken = taken_by_someone s.geometry past c a (f.taken a h k) in
       let none = fresh_none s.geometry past so a taken (f.unpublished a h k) in
@@ -40,11 +41,11 @@ module _ (s : Setting) (past : Past) (e : Entry) (l : Legal s past) (m : Meets s
       let z = ap (role s.geometry past) x in
       cc
 
-  pub fresh_packs : (t p c : ℕ) (b : Body) (q : Pair) → role s.geometry past e.at ≡ SlotWord t p → IsFresh s past c t p b q → pair_at s.geometry (e ∷ past) b ≡ Some q
+  pub fresh_packs : (t p c : ℕ) (b : Body) (q : Pair) → role s.geometry past e.at ≡ SlotWord t p → IsFresh s past c b q → pair_at s.geometry (e ∷ past) b ≡ Some q
   fresh_packs t p c b q r f = ap (λ ws. cond (nat_le (b.at + b.length) s.geometry.words) (unpacked ws) None) (words_kept s.geometry past e b.at b.length (λ a h k. word_kept s.geometry past e a (fresh_apart t p c b q r f a h k))) ∙ f.packs
 
   -- the block that an entry names for the first time is named
-  fresh_named : (t p c : ℕ) (mk : Mark) (b : Body) (q : Pair) → role s.geometry past e.at ≡ SlotWord t p → content e.new ≡ Full mk b → IsFresh s past c t p b q → Named s.geometry (e ∷ past) b
+  fresh_named : (t p c : ℕ) (mk : Mark) (b : Body) (q : Pair) → role s.geometry past e.at ≡ SlotWord t p → content e.new ≡ Full mk b → IsFresh s past c b q → Named s.geometry (e ∷ past) b
   fresh_named t p c mk b q r w f = record {
     pair = q;
     packs = fresh_packs t p c b q r f;
@@ -60,7 +61,7 @@ module _ (s : Setting) (past : Past) (e : Entry) (l : Legal s past) (m : Meets s
 
       outside : (a : ℕ) → b.at ≤ a → a < b.at + b.length → (o : Option ℕ) → table_of s.geometry (e ∷ past) a ≡ o → table_of s.geometry (e ∷ past) a ≡ None
       outside a h k None x = x
-      outside a h k (Some u) x = absurd (⊎_elim (λ (y : table_of s.geometry past a ≡ Some u). let z = none a h k in cc) (λ y. let z = (links_child e (role s.geometry past e.at) y.0).2 in cc) (table_cases s past e m so ss a u x))
+      outside a h k (Some u) x = absurd (⊎_elim (λ (y : table_of s.geometry past a ≡ Some u). let z = none a h k in cc) (λ y. let z = sym (judged_is s.geometry past so e.at) ∙ (links_child s.geometry e (judged_role s.geometry past e.at) y.0).2 in cc) (table_cases s past e m so ss a u x))
 
   slot_named : (a t p : ℕ) (mk : Mark) (b : Body) → role s.geometry past e.at ≡ SlotWord t p → SlotStep s past e t p → content e.new ≡ Full mk b → Named s.geometry (e ∷ past) b
   slot_named a t p mk b r (place c k o n row) w = subst (Named s.geometry (e ∷ past)) (full_same Pending mk row.body b (sym row.word ∙ w)) (fresh_named t p e.client Pending row.body row.pair r row.word row.fresh)
@@ -88,17 +89,17 @@ module _ (s : Setting) (past : Past) (e : Entry) (l : Legal s past) (m : Meets s
       stood h = ⊎_elim
           (λ (y : word_at s.geometry (e ∷ past) a ≡ word_at s.geometry past a). named_kept s past e m so ss b (so.named a t p mk b h (sym (ap content y) ∙ w)))
           (λ y. slot_named a t p mk b (sym (ap (role s.geometry past) y.0) ∙ h) y.1 (sym (ap content (word_put s.geometry past e a y.0)) ∙ w))
-          (touched s past e a (SlotWord t p) m h)
+          (touched s past e a (SlotWord t p) m (judged_is s.geometry past so a ∙ h))
 
-      linked : links e (role s.geometry past e.at) ≡ true → e.new ≤ a → a < e.new + table_words s.geometry → t ≡ e.new → table_of s.geometry (e ∷ past) a ≡ Some t → ⊥
+      linked : links s.geometry e (judged_role s.geometry past e.at) ≡ true → e.new ≤ a → a < e.new + table_words s.geometry → t ≡ e.new → table_of s.geometry (e ∷ past) a ≡ Some t → ⊥
       linked h k u q there =
-          let c = links_child e (role s.geometry past e.at) h in
+          let c = links_child s.geometry e (judged_role s.geometry past e.at) h in
           let row = (subst (StepAt s past e) c.2 (step_of s past e m)).2 in
           let none = (link_row s past e m so ss h a k u).0 in
           let off : offset_role e.new (a - e.new) ≡ SlotWord t p = sym (role_by_offset s.geometry a e.new) ∙ ap (role_in s.geometry a) (ap (λ v. Some v) (sym q) ∙ sym there) ∙ r in
           let blank = row.newborn.blank (a - e.new) (omega arith) (subst IsBlank (sym off) tt) in
           let back : e.new + (a - e.new) ≡ a = omega arith in
-          let other : a ≢ e.at = λ (v : a ≡ e.at). let z = ap (table_of s.geometry past) v in let y = in_table (table_of s.geometry past e.at) c.0 c.1 c.2 in cc in
+          let other : a ≢ e.at = λ (v : a ≡ e.at). let z = ap (table_of s.geometry past) v in let y = in_table (table_of s.geometry past e.at) c.0 c.1 (sym (judged_is s.geometry past so e.at) ∙ c.2) in cc in
           let zero = word_kept s.geometry past e a other ∙ ap (word_at s.geometry past) (sym back) ∙ blank in
           let empty = ap content zero ∙ content-0 in
           cc

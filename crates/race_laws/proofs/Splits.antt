@@ -10,14 +10,16 @@ use Rattle.node_words.proofs.FirstTables.{IsInFirst}
 use Rattle.node_words.proofs.RoleLemmas.{child_role, slot_role, child_in as child_address}
 use Rattle.verb_log.specs.declared.entry.Entry.{Entry}
 use Rattle.verb_log.specs.Decoded.{Body, Empty, Full, content, SplittingAt, FillingAt, NoHeader, header, birth}
-use Rattle.verb_log.specs.Tables.{Past, word_at, table_of, role, links}
+use Rattle.verb_log.specs.Tables.{Past, word_at, is_address, table_of, role, judged_role, links}
 use Rattle.race_laws.specs.Setting.{Setting}
 use Rattle.race_laws.specs.Standing.{IsTable, header_in, birth_in, child_in, bucket_in, place_in, depth, IsFilling, IsGone}
 use Rattle.race_laws.specs.Rows.{IsPlace, IsBlank, LinkRow}
 use Rattle.race_laws.specs.Legal.{Meets, Legal}
 use Rattle.race_laws.proofs.Step.{StepAt, step_of}
 use Rattle.race_laws.proofs.Touch.{word_kept}
-use Rattle.race_laws.proofs.Sound.{Sound}
+use Rattle.verb_log.specs.Fits.{IsAddress}
+use Rattle.verb_log.proofs.Rows.{address_test}
+use Rattle.race_laws.proofs.Sound.{Sound, judged_is}
 use Rattle.race_laws.proofs.SoundStep.{sound, sounds}
 use Rattle.race_laws.proofs.Covers.{links_child}
 use Rattle.race_laws.proofs.RegionsStep.{link_row, linked_now, table_cases}
@@ -88,11 +90,11 @@ module _ (s : Setting) (past : Past) (e : Entry) (l : Legal s past) (m : Meets s
   sn : Sound s.geometry (e ∷ past)
   sn = sound s (e ∷ past) (l, m)
 
-  pub linked : links e (role s.geometry past e.at) ≡ true → IsTable s.geometry (e ∷ past) e.new → Linked s past e
+  pub linked : links s.geometry e (judged_role s.geometry past e.at) ≡ true → IsTable s.geometry (e ∷ past) e.new → Linked s past e
   linked h now =
-      let c = links_child e (role s.geometry past e.at) h in
+      let c = links_child s.geometry e (judged_role s.geometry past e.at) h in
       let st = subst (StepAt s past e) c.2 (step_of s past e m) in
-      let a = child_address s.geometry e.at (table_of s.geometry past e.at) c.0 c.1 c.2 in
+      let a = child_address s.geometry e.at (table_of s.geometry past e.at) c.0 c.1 (sym (judged_is s.geometry past so e.at) ∙ c.2) in
       record {
         table = c.0;
         level = c.1;
@@ -100,14 +102,14 @@ module _ (s : Setting) (past : Past) (e : Entry) (l : Legal s past) (m : Meets s
         small = a.2;
         at = sym a.1;
         empty = ap (word_at s.geometry past) (sym a.1) ∙ st.0;
-        some = st.1;
+        some = st.1.0;
         row = st.2;
         none = λ o k. (link_row s past e m so (λ at b. sounds s at past b l) h (e.new + o) (omega arith) (omega arith)).0;
         now = now;
       }
 
   -- an entry on a child word links
-  pub linked_at : (t i : ℕ) → IsTable s.geometry past t → i < 16 → child_at t i ≡ e.at → child_in s.geometry past t i ≡ 0 → e.new ≢ 0 → LinkRow s.geometry past e t i → (k : Linked s past e) × (k.table ≡ t) × (k.level ≡ i)
+  pub linked_at : (t i : ℕ) → IsTable s.geometry past t → i < 16 → child_at t i ≡ e.at → child_in s.geometry past t i ≡ 0 → IsAddress s.geometry e.new → LinkRow s.geometry past e t i → (k : Linked s past e) × (k.table ≡ t) × (k.level ≡ i)
   linked_at t i h k q z n row = (
     record {
       table = t;
@@ -116,7 +118,7 @@ module _ (s : Setting) (past : Past) (e : Entry) (l : Legal s past) (m : Meets s
       small = k;
       at = q;
       empty = z;
-      some = n;
+      some = n.0;
       row = row;
       none = λ o x. (link_row s past e m so (λ at b. sounds s at past b l) links_it (e.new + o) (omega arith) (omega arith)).0;
       now = linked_now s past e m so (λ at b. sounds s at past b l) links_it e.new (omega arith) (omega arith);
@@ -131,11 +133,11 @@ module _ (s : Setting) (past : Past) (e : Entry) (l : Legal s past) (m : Meets s
       old_zero : e.old ≡ 0
       old_zero = sym m.stands ∙ ap (word_at s.geometry past) (sym q) ∙ z
 
-      test : e.old ≡ 0 → e.new ≢ 0 → ((e.old == 0) && not (e.new == 0)) ≡ true
-      test x y = grind (arith, nat_tests)
+      test : e.old ≡ 0 → IsAddress s.geometry e.new → ((e.old == 0) && is_address s.geometry e.new) ≡ true
+      test x y = let z = address_test s.geometry e.new y in grind (arith, nat_tests)
 
-      links_it : links e (role s.geometry past e.at) ≡ true
-      links_it = ap (links e) on ∙ test old_zero n
+      links_it : links s.geometry e (judged_role s.geometry past e.at) ≡ true
+      links_it = ap (links s.geometry e) (judged_is s.geometry past so e.at ∙ on) ∙ test old_zero n
 
   -- a table of the log one longer was one, or is the one that the entry links
   pub new_table : (t : ℕ) → IsTable s.geometry (e ∷ past) t → IsTable s.geometry past t ⊎ ((t ≡ e.new) × Linked s past e)

@@ -8,11 +8,13 @@ use Rattle.verb_log.specs.declared.entry.Entry.{Entry}
 use Rattle.verb_log.specs.declared.kind.Kind.{Kind}
 use Rattle.verb_log.specs.declared.kind.Kind.TheVariants.{Store, Take, Place, Drop, Commit, Replace, Remove, Lock, Unlock, Link, Begin, Open, Copy, Uncopy, Flip, Settle, Clear, Finish, Close, Ripen, Name, Deepen}
 use Rattle.verb_log.specs.Decoded.{Body, Content, Empty, Full, NoSlot, content, Header, PlainAt, SplittingAt, FillingAt, NoHeader, header}
-use Rattle.verb_log.specs.Tables.{Past, word_at, role, is_taken, is_published}
+use Rattle.verb_log.specs.Tables.{Past, word_at, is_address, is_taken, is_published, judged_role}
 use Rattle.verb_log.specs.Kinds.{kind, same_body, other_block, only_if, slot_kind, header_kind, bucket_kind, kind_of_role}
+use Rattle.verb_log.specs.Fits.{IsAddress}
+use Rattle.verb_log.proofs.Rows.{address_is}
 use Rattle.race_laws.specs.Setting.{Setting}
 use Rattle.race_laws.specs.Rows.{TakeRow, PlaceRow, CommitRow, ReplaceRow, RemoveRow, UnlockRow, LinkRow, BeginRow, OpenRow, CopyRow, UncopyRow, FlipRow, SettleRow, ClearRow, FinishRow, CloseRow, RipenRow, RipenHeaderRow, NameRow, DeepenRow, StoreRow}
-use Rattle.race_laws.specs.Legal.{SlotRow, HeaderRow, BucketRow, LockRow, Has, Row, Meets}
+use Rattle.race_laws.specs.Legal.{SlotRow, HeaderRow, BucketRow, LockRow, IfKind, Row, Meets}
 
 -- what stands in a slot word, and in a header word
 abbrev pub content_at : Setting → Past → ℕ → Content
@@ -51,7 +53,7 @@ pub data LockStep (s : Setting) (past : Past) (e : Entry) (t : ℕ) : Type 0 whe
   lock : word_at s.geometry past e.at ≡ 0 → e.new ≡ e.client + 1 → LockStep s past e t
   unlock : word_at s.geometry past e.at ≡ e.client + 1 → e.new ≡ 0 → UnlockRow s.geometry past t → LockStep s past e t
 
--- what a legal entry is, by the role of its word
+-- what a legal entry is, by what the table of kinds takes its word for
 abbrev pub StepAt : Setting → Past → Entry → Role → Type 0
 StepAt s past e (NextWord n) = (word_at s.geometry past e.at < e.new) × TakeRow s.geometry past e n
 StepAt s past e DepthWord = (e.new ≡ word_at s.geometry past e.at + 1) × DeepenRow s.geometry past e
@@ -60,7 +62,7 @@ StepAt s past e (BirthWord t) = ⊥
 StepAt s past e (HeaderWord t) = HeaderStep s past e t
 StepAt s past e (LockWord t) = LockStep s past e t
 StepAt s past e ReservedWord = ⊥
-StepAt s past e (ChildWord t i) = (word_at s.geometry past e.at ≡ 0) × (e.new ≢ 0) × LinkRow s.geometry past e t i
+StepAt s past e (ChildWord t i) = (word_at s.geometry past e.at ≡ 0) × IsAddress s.geometry e.new × LinkRow s.geometry past e t i
 StepAt s past e (BucketWord t m) = BucketStep s past e t
 StepAt s past e (SlotWord t p) = SlotStep s past e t p
 StepAt s past e HeapWord = (is_taken s.geometry past e.at ≡ true) × (is_published s.geometry past e.at ≡ false) × StoreRow s.geometry past e
@@ -203,7 +205,7 @@ module _ (s : Setting) (past : Past) (e : Entry) (t p : ℕ) where
   lock_of false y q v w r = unlock_of (e.old == e.client + 1) (e.new == 0) refl refl w r
 
   -- a row that a test guards
-  guarded : (fits : Bool) (k : Kind) (P : Type 0) → Has (only_if fits k) P → (fits ≡ true) × P
+  guarded : (fits : Bool) (k : Kind) (P : Type 0) → IfKind (only_if fits k) P → (fits ≡ true) × P
   guarded true k P h = (refl, h)
   guarded false k P h = absurd h
 
@@ -218,16 +220,16 @@ step_by s past e DepthWord w k h =
     let same : e.new ≡ e.old + 1 = grind (arith, nat_tests, x.0) in
     (subst (λ v. e.new ≡ v + 1) (sym w) same, x.1)
 step_by s past e (DirectoryWord j) w k h =
-    let x = guarded s past e 0 0 (not (e.new == 0)) Name (NameRow s.geometry past e j) h in
-    (grind (arith, nat_tests, x.0), x.1)
+    let x = guarded s past e 0 0 (is_address s.geometry e.new) Name (NameRow s.geometry past e j) h in
+    ((address_is s.geometry e.new x.0).0, x.1)
 step_by s past e (BirthWord t) w k h = absurd h
 step_by s past e (HeaderWord t) w k h = header_step s past e t 0 (header e.old) (header e.new) (ap header w) refl h
 step_by s past e (LockWord t) w k h = lock_of s past e t 0 (e.old == 0) (e.new == e.client + 1) refl refl w h
 step_by s past e ReservedWord w k h = absurd h
 step_by s past e (ChildWord t i) w k h =
-    let x = guarded s past e 0 0 ((e.old == 0) && not (e.new == 0)) Link (LinkRow s.geometry past e t i) h in
-    let y = both (e.old == 0) (not (e.new == 0)) x.0 in
-    (w ∙ grind (arith, nat_tests, y.0), grind (arith, nat_tests, y.1), x.1)
+    let x = guarded s past e 0 0 ((e.old == 0) && is_address s.geometry e.new) Link (LinkRow s.geometry past e t i) h in
+    let y = both (e.old == 0) (is_address s.geometry e.new) x.0 in
+    (w ∙ grind (arith, nat_tests, y.0), address_is s.geometry e.new y.1, x.1)
 step_by s past e (BucketWord t m) w k h = bucket_step s past e t 0 (header e.old) (header e.new) (ap header w) refl h
 step_by s past e (SlotWord t p) w k h = slot_step s past e t p (content e.old) (content e.new) (ap content w) refl k h
 step_by s past e HeapWord w k h =
@@ -239,6 +241,7 @@ step_by s past e HeapWord w k h =
     not_true true h = cc
     not_true false h = refl
 
--- what a legal entry is
-pub step_of : (s : Setting) (past : Past) (e : Entry) → Meets s past e → StepAt s past e (role s.geometry past e.at)
-step_of s past e m = step_by s past e (role s.geometry past e.at) m.stands refl m.row
+-- what a legal entry is: by the role of its word, since the table of kinds takes each word of a legal log for what it is
+-- (`Sound.judged_is`)
+pub step_of : (s : Setting) (past : Past) (e : Entry) → Meets s past e → StepAt s past e (judged_role s.geometry past e.at)
+step_of s past e m = step_by s past e (judged_role s.geometry past e.at) m.stands refl m.row

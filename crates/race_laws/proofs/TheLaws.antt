@@ -12,7 +12,7 @@ use Rattle.node_words.specs.Roles.{SlotWord}
 use Rattle.verb_log.specs.declared.entry.Entry.{Entry}
 use Rattle.verb_log.specs.declared.kind.Kind.TheVariants.{Commit, Remove}
 use Rattle.verb_log.specs.Decoded.{Body, Empty, Full, content, Header}
-use Rattle.verb_log.specs.Tables.{Past, Before, here, later, word_at, pair_at, role}
+use Rattle.verb_log.specs.Tables.{Past, Before, here, later, word_at, pair_at, role, judged_role}
 use Rattle.verb_log.specs.Kinds.{kind}
 use Rattle.verb_log.specs.Changes.{changes}
 use Rattle.verb_log.proofs.Positions.{Before-take, length-position}
@@ -25,6 +25,7 @@ use Rattle.race_laws.specs.Rows.{IsPlace}
 use Rattle.race_laws.specs.Legal.{Legal, IsLegal}
 use Rattle.race_laws.specs.Laws.{position, map_in, OneHolder, KeepsPlace, keeps, goes_down, HolderPlace, HasLeft, Finality, ClearPlaces, CommitLaw, LacksBetween, Absence, Presence}
 use Rattle.race_laws.proofs.Step.{StepAt, step_of, SlotStep, place, drop, commit, replace, remove, copy, uncopy, flip, settle, clear}
+use Rattle.race_laws.proofs.Sound.{judged_is}
 use Rattle.race_laws.proofs.SoundStep.{sound}
 use Rattle.race_laws.proofs.Slots.{slot_place_of}
 use Rattle.race_laws.proofs.Finality.{GoesOn, opens, finishes, ripens, gone_on, filling_on, header_keeps, bucket_keeps}
@@ -162,8 +163,9 @@ commit_law s log e lg kd b pr n pk = by (fin.get (map_in s.geometry (reverse log
     by None q = q
     by (Some value) q =
         let w = (map_holds s (reverse log) l.0).found pr.key value (sym (ap (λ m. fin.get m pr.key) (map_whole s.geometry (reverse log))) ∙ q) in
-        let x = on_slot s.geometry (reverse log) e (role s.geometry (reverse log) e.at) Commit refl kd in
-        absurd (alone_here x.0 x.1 x.2 (subst (StepAt s (reverse log) e) x.2 (step_of s (reverse log) e l.1)) w)
+        let x = on_slot s.geometry (reverse log) e (judged_role s.geometry (reverse log) e.at) Commit refl kd in
+        let r = sym (judged_is s.geometry (reverse log) (sound s (reverse log) l.0) e.at) ∙ x.2 in
+        absurd (alone_here x.0 x.1 r (subst (StepAt s (reverse log) e) x.2 (step_of s (reverse log) e l.1)) w)
 
 -- a position without the key, or homes all the way
 lacks_or_homes : (s : Setting) (key : List ℕ) {from to : Past} → Before from to → Legal s to → ((z : Past) × Before from z × Before z to × (fin.get (map_of s.geometry z) key ≡ None)) ⊎ AllHomes s key from to

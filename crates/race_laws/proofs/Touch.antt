@@ -6,7 +6,7 @@ use Rattle.std.proofs.lemmas.Bool.Decides.{nat_tests}
 use Rattle.node_words.specs.declared.geometry.Geometry.{Geometry}
 use Rattle.node_words.specs.Roles.{Role, role_in}
 use Rattle.verb_log.specs.declared.entry.Entry.{Entry}
-use Rattle.verb_log.specs.Tables.{Past, word_at, table_of, role, or_else, linked_by, is_taken, is_taken_by, moves_across, is_published, publishes}
+use Rattle.verb_log.specs.Tables.{Past, word_at, table_of, role, judged_role, or_else, linked_by, is_taken, is_taken_by, moves_across, is_published, publishes}
 use Rattle.race_laws.specs.Setting.{Setting}
 use Rattle.race_laws.specs.Legal.{Meets}
 use Rattle.race_laws.proofs.Step.{StepAt, step_of}
@@ -26,20 +26,20 @@ pub word_put : (g : Geometry) (past : Past) (e : Entry) (a : ℕ) → a ≡ e.at
 word_put g past e a q = grind (arith, nat_tests)
 
 -- the frame: an entry leaves a word, or is on it and does what its role allows
-pub touched : (s : Setting) (past : Past) (e : Entry) (a : ℕ) (r : Role) → Meets s past e → role s.geometry past a ≡ r → (word_at s.geometry (e ∷ past) a ≡ word_at s.geometry past a) ⊎ ((a ≡ e.at) × StepAt s past e r)
+pub touched : (s : Setting) (past : Past) (e : Entry) (a : ℕ) (r : Role) → Meets s past e → judged_role s.geometry past a ≡ r → (word_at s.geometry (e ∷ past) a ≡ word_at s.geometry past a) ⊎ ((a ≡ e.at) × StepAt s past e r)
 touched s past e a r m h =
-    ⊎_elim (λ (q : a ≡ e.at). inr (q, subst (StepAt s past e) (sym (ap (role s.geometry past) q) ∙ h) (step_of s past e m))) (λ q. inl (word_kept s.geometry past e a q)) (same_or_not a e.at)
+    ⊎_elim (λ (q : a ≡ e.at). inr (q, subst (StepAt s past e) (sym (ap (judged_role s.geometry past) q) ∙ h) (step_of s past e m))) (λ q. inl (word_kept s.geometry past e a q)) (same_or_not a e.at)
 
 -- a table of the log stays where it is
 pub table_stays : (g : Geometry) (past : Past) (e : Entry) (a t : ℕ) → table_of g past a ≡ Some t → table_of g (e ∷ past) a ≡ Some t
-table_stays g past e a t h = ap (λ o. or_else o (linked_by g e (role_in g e.at (table_of g past e.at)) a)) h
+table_stays g past e a t h = ap (λ o. or_else o (linked_by g e (judged_role g past e.at) a)) h
 
 pub role_stays : (g : Geometry) (past : Past) (e : Entry) (a t : ℕ) → table_of g past a ≡ Some t → role g (e ∷ past) a ≡ role g past a
 role_stays g past e a t h = ap (role_in g a) (table_stays g past e a t h ∙ sym h)
 
 -- what was taken or published stays so
 pub taken_stays : (g : Geometry) (past : Past) (e : Entry) (a : ℕ) → is_taken g past a ≡ true → is_taken g (e ∷ past) a ≡ true
-taken_stays g past e a h = or_right (moves_across e (role g past e.at) a) (is_taken g past a) h
+taken_stays g past e a h = or_right (moves_across g e (judged_role g past e.at) a) (is_taken g past a) h
   where
     or_right : (x y : Bool) → y ≡ true → (x || y) ≡ true
     or_right true y h = refl
@@ -65,8 +65,8 @@ and_both false y h = cc
 pub taken_by_someone : (g : Geometry) (past : Past) (c a : ℕ) → is_taken_by g past c a ≡ true → is_taken g past a ≡ true
 taken_by_someone g [] c a h = h
 taken_by_someone g (e ∷ past) c a h =
-    ⊎_elim (λ (x : (moves_across e (role g past e.at) a && (e.client == c)) ≡ true). or_left (moves_across e (role g past e.at) a) (is_taken g past a) (and_both _ (e.client == c) x).0)
-    (λ (y : is_taken_by g past c a ≡ true). taken_stays g past e a (taken_by_someone g past c a y)) (or_either (moves_across e (role g past e.at) a && (e.client == c)) (is_taken_by g past c a) h)
+    ⊎_elim (λ (x : (moves_across g e (judged_role g past e.at) a && (e.client == c)) ≡ true). or_left (moves_across g e (judged_role g past e.at) a) (is_taken g past a) (and_both _ (e.client == c) x).0)
+    (λ (y : is_taken_by g past c a ≡ true). taken_stays g past e a (taken_by_someone g past c a y)) (or_either (moves_across g e (judged_role g past e.at) a && (e.client == c)) (is_taken_by g past c a) h)
   where
     or_left : (x y : Bool) → x ≡ true → (x || y) ≡ true
     or_left true y h = refl

@@ -15,7 +15,7 @@ use Rattle.verb_log.proofs.Positions.{Before-trans}
 use Rattle.race_laws.specs.Setting.{Setting, hash, places}
 use Rattle.race_laws.specs.Standing.{IsTable, header_in, child_in, place_in, IsFilling, Exits, Word, IsIn}
 use Rattle.race_laws.specs.Chains.{OnChain}
-use Rattle.race_laws.specs.Looks.{Reading, Searched, IsAmong, Between, InOrder, Answers, IsMiss, AllMiss, is_other, read_places, Misses, Passing, begins, goes_on, PassedBy}
+use Rattle.race_laws.specs.Looks.{Reading, Searched, Between, InOrder, Answers, IsMiss, AllMiss, is_other, read_places, Misses, Passing, begins, goes_on, PassedBy}
 use Rattle.race_laws.specs.Rows.{IsPlace}
 use Rattle.race_laws.specs.Legal.{Legal}
 use Rattle.race_laws.proofs.Positions.{legal_before}
@@ -63,17 +63,17 @@ IsIn-filter f p (x ∷ xs) h k = by (f x) refl (λ q. IsIn-filter f p xs q k)
     by true e ih = subst (IsIn p) (sym (kept e)) (⊎_elim (λ (q : p ≡ x). inl q) (λ (q : IsIn p xs). inr (ih q)) h)
     by false e ih = subst (IsIn p) (sym (dropped e)) (⊎_elim (λ (q : p ≡ x). let z = ap f q in absurd (cc)) (λ (q : IsIn p xs). ih q) h)
 
-pub reading_of : (p : ℕ) (seen : List Reading) → IsIn p (map (λ (r : Reading). r.place) seen) → (r : Reading) × IsAmong r seen × (r.place ≡ p)
+pub reading_of : (p : ℕ) (seen : List Reading) → IsIn p (map (λ (r : Reading). r.place) seen) → (r : Reading) × IsIn r seen × (r.place ≡ p)
 reading_of p [] h = absurd h
 reading_of p (x ∷ xs) h = ⊎_elim (λ (q : p ≡ x.place). (x, inl refl, sym q)) (λ (q : IsIn p (map (λ (r : Reading). r.place) xs)). let y = reading_of p xs q in (y.0, inr y.1, y.2)) h
 
-pub reading_stands : (from : Past) (seen : List Reading) (to : Past) → Between from seen to → (r : Reading) → IsAmong r seen → Before from r.at × Before r.at to
+pub reading_stands : (from : Past) (seen : List Reading) (to : Past) → Between from seen to → (r : Reading) → IsIn r seen → Before from r.at × Before r.at to
 reading_stands from [] to h r k = absurd k
-reading_stands from (x ∷ xs) to h r k = ⊎_elim (λ (q : r ≡ x). subst (λ (v : Reading). Before from v.at × Before v.at to) (sym q) (h.0, h.1)) (λ (q : IsAmong r xs). reading_stands from xs to h.2 r q) k
+reading_stands from (x ∷ xs) to h r k = ⊎_elim (λ (q : r ≡ x). subst (λ (v : Reading). Before from v.at × Before v.at to) (sym q) (h.0, h.1)) (λ (q : IsIn r xs). reading_stands from xs to h.2 r q) k
 
-pub reading_misses : (s : Setting) (key : List ℕ) (own : Option ℕ) (prev : Option Searched) (t : ℕ) (seen : List Reading) → AllMiss s key own prev t seen → (r : Reading) → IsAmong r seen → IsMiss s key own prev t r
+pub reading_misses : (s : Setting) (key : List ℕ) (own : Option ℕ) (prev : Option Searched) (t : ℕ) (seen : List Reading) → AllMiss s key own prev t seen → (r : Reading) → IsIn r seen → IsMiss s key own prev t r
 reading_misses s key own prev t [] h r k = absurd k
-reading_misses s key own prev t (x ∷ xs) h r k = ⊎_elim (λ (q : r ≡ x). subst (IsMiss s key own prev t) (sym q) h.0) (λ (q : IsAmong r xs). reading_misses s key own prev t xs h.1 r q) k
+reading_misses s key own prev t (x ∷ xs) h r k = ⊎_elim (λ (q : r ≡ x). subst (IsMiss s key own prev t) (sym q) h.0) (λ (q : IsIn r xs). reading_misses s key own prev t xs h.1 r q) k
 
 -- a place is the own slot, or it is read
 pub own_or_other : (own : Option ℕ) (t p : ℕ) → (own ≡ Some (slot_at t p)) ⊎ (is_other own t p ≡ true)
@@ -128,7 +128,7 @@ module _ (s : Setting) (key : List ℕ) (own : Option ℕ) (from to : Past) (lt 
     pub child : child_in s.geometry since x.table level ≡ t
     pub some : t ≢ 0
     pub on : OnChain s.geometry since (hash s key) x.table
-    pub read : (own ≡ Some (slot_at x.table p)) ⊎ ((r : Reading) × IsAmong r x.seen × (r.place ≡ p) × Before from r.at × Before r.at since × OnChain s.geometry r.at (hash s key) x.table × Below r.at x.table)
+    pub read : (own ≡ Some (slot_at x.table p)) ⊎ ((r : Reading) × IsIn r x.seen × (r.place ≡ p) × Before from r.at × Before r.at since × OnChain s.geometry r.at (hash s key) x.table × Below r.at x.table)
 
   abbrev pub PrevOk : Option Searched → ℕ → Past → Type 0
   PrevOk None t since = IsFilling (header_in s.geometry since t) → ⊥
@@ -263,7 +263,7 @@ module _ (s : Setting) (key : List ℕ) (own : Option ℕ) (from to : Past) (lt 
   -- what a table's readings leave: the word strictly below at their end, and what the next table needs of it
   pub record Done (t : ℕ) (seen : List Reading) (since end : Past) : Type 0 where
     pub below : Below end t
-    pub read : (own ≡ Some (slot_at t p)) ⊎ ((r : Reading) × IsAmong r seen × (r.place ≡ p) × Before from r.at × Before r.at end × OnChain s.geometry r.at h t × Below r.at t)
+    pub read : (own ≡ Some (slot_at t p)) ⊎ ((r : Reading) × IsIn r seen × (r.place ≡ p) × Before from r.at × Before r.at end × OnChain s.geometry r.at h t × Below r.at t)
 
   done : (prev : Option Searched) (t : ℕ) (since end : Past) (seen : List Reading) → Before from since → Before since end → Before end to → Here prev t since → Misses Between s key own prev t seen since end → Done t seen since end
   done prev t since end seen fs se et hr m = ⊎_elim

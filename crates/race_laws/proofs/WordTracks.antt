@@ -12,7 +12,7 @@ use Rattle.verb_log.specs.Tables.{Past, Before, here, later, word_at, pair_at}
 use Rattle.verb_log.proofs.Positions.{Before-trans}
 use Rattle.race_laws.specs.Setting.{Setting, hash, places}
 use Rattle.race_laws.specs.Standing.{IsTable, header_in, place_in, IsFilling, IsIn}
-use Rattle.race_laws.specs.Chains.{OnChain}
+use Rattle.race_laws.specs.Chains.{IsCandidate, OnChain}
 use Rattle.race_laws.specs.Rows.{IsPlace, IsPlacedSwept}
 use Rattle.race_laws.specs.Legal.{Meets, Legal}
 use Rattle.race_laws.proofs.Positions.{before_total, legal_before, before_never}
@@ -23,10 +23,10 @@ use Rattle.race_laws.proofs.Slots.{standing_named}
 use Rattle.race_laws.proofs.Pending.{Origin, pending_between, no_commit}
 use Rattle.race_laws.proofs.Passes.{exits_later}
 use Rattle.race_laws.proofs.Chain.{born_at, born_before}
-use Rattle.race_laws.proofs.Seats.{Seat, seats, finished}
+use Rattle.race_laws.proofs.Candidates.{word_candidate, finished}
 use Rattle.race_laws.proofs.Homes.{parent_of, Stands, as_live, as_copy, Home, Somewhere, Alone}
 use Rattle.race_laws.proofs.Tracks.{Shows, live_word, copy_word, pending_word, Track}
-use Rattle.race_laws.proofs.Paths.{AllHomes, LastCommit, alone_of, copy_back, gone_left, home_not_above, home_seat, path}
+use Rattle.race_laws.proofs.Paths.{AllHomes, LastCommit, alone_of, copy_back, gone_left, home_not_above, home_candidate, path}
 
 -- a block in a home, when its slot is seen
 home_shows : (s : Setting) (z : Past) (key : List ℕ) (own : Option ℕ) (t p : ℕ) (b : Body) (pr : Pair) → Home s z key t p b pr → Shows s key own z t p
@@ -57,9 +57,9 @@ OwnPending s own from to = (z : Past) (a : ℕ) → Before from z → Before z t
 pub home_track : (s : Setting) {from to : Past} → Legal s to → Alone s to → Before from to → (key : List ℕ) (own : Option ℕ) → (all : AllHomes s key from to) → OwnPending s own from to → (t p : ℕ) (b : Body) (pr : Pair) → Home s to key t p b pr → Track s key own from to p (HomeIn s key p)
 home_track s {from = from} {to = to} l a ft key own all pend t p b pr top = record {
   place = top.place;
-  candidate = (home_seat s to l key t p b pr top).candidate;
+  candidate = (home_candidate s to l key t p b pr top).candidate;
   some = λ z x y. at_place z x y (all z x y);
-  chain = λ z v x y w. (home_seat s z (legal_before s y l) key v p w.body w.pair w.home).chain;
+  chain = λ z v x y w. (home_candidate s z (legal_before s y l) key v p w.body w.pair w.home).chain;
   down = λ y z v w fy yz zt g k. (path s yz (legal_before s zt l) (alone_before zt) key (part y z fy zt) v w p p g.body k.body g.pair k.pair g.home k.home).1;
   not_above = λ z v u x y w c r. home_not_above s z (legal_before s y l) key v p w.body w.pair w.home u c r;
   shows = λ z v x y w. home_shows s z key own v p w.body w.pair w.home;
@@ -95,11 +95,11 @@ pub pending_of : (s : Setting) {from to q : Past} (e : Entry) → Legal s q → 
 pending_of s {from = from} {to = to} {q = q} e l m t p b pr h k z o pk sw og pf ft tq = record {
   table = tf;
   place = k;
-  candidate = (seat from here ft).candidate;
+  candidate = (place_there from here ft).candidate;
   same_key = refl;
   stood = stood;
   packs = packs;
-  chain = λ y c d. (seat y c d).chain;
+  chain = λ y c d. (place_there y c d).chain;
   not_above = above;
 }
   where
@@ -121,15 +121,15 @@ pending_of s {from = from} {to = to} {q = q} e l m t p b pr h k z o pk sw og pf 
     packs : (y : Past) → Before from y → Before y to → pair_at s.geometry y b ≡ Some pr
     packs y c d = sym (packs_later s (Before-trans d tq) l b (standing_named s.geometry y (sound s y (legal_y y d)) t p Pending b (table_before s.geometry c t t tf) k (stood y c d))) ∙ pk
 
-    seat : (y : Past) → Before from y → Before y to → Seat s y t p pr.key
-    seat y c d = seats s y (legal_y y d) y here t p Pending b pr (table_before s.geometry c t t tf) k (record { stands = stood y c d; packs = packs y c d })
+    place_there : (y : Past) → Before from y → Before y to → IsCandidate s y t p pr.key
+    place_there y c d = word_candidate s y (legal_y y d) y here t p Pending b pr (table_before s.geometry c t t tf) k (record { stands = stood y c d; packs = packs y c d })
 
     above : (y : Past) (u : ℕ) → Before from y → Before y to → OnChain s.geometry y (hash s pr.key) u → (IsFilling (header_in s.geometry y u) → ⊥) → born_at s.geometry y u ≤ born_at s.geometry y t
     above y u c d on ripe = ⊎_elim
         (λ (x : born_at s.geometry y t < born_at s.geometry y u).
         let ly = legal_y y d in
         let ty = table_before s.geometry c t t tf in
-        let g = gone_left s y ly (hash s pr.key) t u (seat y c d).chain on ripe x in
+        let g = gone_left s y ly (hash s pr.key) t u (place_there y c d).chain on ripe x in
         let f = finished s y ly t g.0 p ty (exit-some (hash s pr.key) (born_at s.geometry y t) g.0 g.1).from g.2 k in
         let yq = Before-trans d tq in
         absurd (no_commit s e (Before-trans f.before yq) l m t g.0 p k f.clear b pr z o pk (exits_later s yq l t g.0 pr.key ty g.1) sw))
@@ -209,7 +209,7 @@ mixed_track s {from = from} {to = to} l a key own lc w pend apart = record {
 
     chain_at : (z : Past) (v : ℕ) → Before from z → Before z to → Phase s key lc.past lc.entry lc.table lc.place z v → OnChain s.geometry z (hash s key) v
     chain_at z v x y (early c q) = subst (OnChain s.geometry z (hash s key)) (sym q) (w.chain z x c)
-    chain_at z v x y (late c hm) = (home_seat s z (legal_before s y l) key v lc.place hm.body hm.pair hm.home).chain
+    chain_at z v x y (late c hm) = (home_candidate s z (legal_before s y l) key v lc.place hm.body hm.pair hm.home).chain
 
     down_at : (y z : Past) (v u : ℕ) → Before from y → Before y z → Before z to → Phase s key lc.past lc.entry lc.table lc.place y v → Phase s key lc.past lc.entry lc.table lc.place z u → born_at s.geometry y v ≤ born_at s.geometry z u
     down_at y z v u fy yz zt (early c q) (early d r) =

@@ -30,6 +30,11 @@ pub data IsStart (g : Geometry) (past : Past) (h : ℕ) : ℕ → Type 0 where
   on_chain : (t : ℕ) → OnChain g past h t → IsStart g past h t
   opening : (t d c : ℕ) → OnChain g past h t → IsOpening g past t d → child_in g past t d ≡ c → IsStart g past h c
 
+-- the slot at place p of table t is one that looks for the key read: a candidate of the key, in a table on its chain
+pub record IsCandidate (s : Setting) (past : Past) (t p : ℕ) (key : List ℕ) : Type 0 where
+  pub candidate : IsIn p (places s key)
+  pub chain : OnChain s.geometry past (hash s key) t
+
 -- the slot at place p of table t holds the key of the pair, in this block: a live word in a candidate slot of a table on
 -- the chain, or in a candidate slot a copy of a block that the same place of the parent has as moved
 pub data Holder (s : Setting) (past : Past) (key : List ℕ) : ℕ → ℕ → Body → Pair → Type 0 where

@@ -4,7 +4,7 @@ use Rattle.node_words.specs.Roles.{Role, NextWord, DepthWord, DirectoryWord, Bir
 use Rattle.verb_log.specs.declared.entry.Entry.{Entry}
 use Rattle.verb_log.specs.declared.kind.Kind.{Kind}
 use Rattle.verb_log.specs.declared.kind.Kind.TheVariants.{Place, Drop, Commit, Replace, Remove, Lock, Unlock, Begin, Open, Copy, Uncopy, Flip, Settle, Clear, Finish, Close, Ripen}
-use Rattle.verb_log.specs.Tables.{Past, word_at, role}
+use Rattle.verb_log.specs.Tables.{Past, word_at, judged_role}
 use Rattle.verb_log.specs.Kinds.{kind}
 use Rattle.race_laws.specs.Setting.{Setting}
 use Rattle.race_laws.specs.Rows.{TakeRow, PlaceRow, CommitRow, ReplaceRow, RemoveRow, UnlockRow, LinkRow, BeginRow, OpenRow, CopyRow, UncopyRow, FlipRow, SettleRow, ClearRow, FinishRow, CloseRow, RipenRow, RipenHeaderRow, NameRow, DeepenRow, StoreRow}
@@ -41,29 +41,29 @@ LockRow s past t (Some Unlock) = UnlockRow s.geometry past t
 LockRow s past t _ = ⊥
 
 -- the kind is known, and this must hold
-abbrev pub Has : Option Kind → Type 0 → Type 0
-Has (Some k) P = P
-Has None P = ⊥
+abbrev pub IfKind : Option Kind → Type 0 → Type 0
+IfKind (Some k) P = P
+IfKind None P = ⊥
 
--- what must hold of an entry, by the role of its word and by its kind
+-- what must hold of an entry, by what the table of kinds takes its word for and by its kind
 abbrev pub Row : Setting → Past → Entry → Role → Option Kind → Type 0
-Row s past e (NextWord n) k = Has k (TakeRow s.geometry past e n)
-Row s past e DepthWord k = Has k (DeepenRow s.geometry past e)
-Row s past e (DirectoryWord j) k = Has k (NameRow s.geometry past e j)
+Row s past e (NextWord n) k = IfKind k (TakeRow s.geometry past e n)
+Row s past e DepthWord k = IfKind k (DeepenRow s.geometry past e)
+Row s past e (DirectoryWord j) k = IfKind k (NameRow s.geometry past e j)
 Row s past e (BirthWord t) k = ⊥
 Row s past e (HeaderWord t) k = HeaderRow s past e t k
 Row s past e (LockWord t) k = LockRow s past t k
 Row s past e ReservedWord k = ⊥
-Row s past e (ChildWord t i) k = Has k (LinkRow s.geometry past e t i)
+Row s past e (ChildWord t i) k = IfKind k (LinkRow s.geometry past e t i)
 Row s past e (BucketWord t m) k = BucketRow s past e t k
 Row s past e (SlotWord t p) k = SlotRow s past e t p k
-Row s past e HeapWord k = Has k (StoreRow s.geometry past e)
+Row s past e HeapWord k = IfKind k (StoreRow s.geometry past e)
 
 -- the entry may follow the log: its address is one of the words, its old word stands there, and it meets the row of its kind
 pub record Meets (s : Setting) (past : Past) (e : Entry) : Type 0 where
   pub within : e.at < s.geometry.words
   pub stands : word_at s.geometry past e.at ≡ e.old
-  pub row : Row s past e (role s.geometry past e.at) (kind s.geometry past e)
+  pub row : Row s past e (judged_role s.geometry past e.at) (kind s.geometry past e)
 
 abbrev pub Legal : Setting → Past → Type 0
 Legal s [] = Unit {0}

@@ -5,6 +5,6 @@ pub mod Splits
 pub mod Looks
 pub mod Rows
 pub mod Legal
+pub mod Named
 pub mod Laws
-pub mod Leaving
 pub mod FirstInsert

@@ -1,13 +1,12 @@
 -- What a pass down the chain of a key has read: a look, and a sweep that leaves out the call's own slot.
-use Rattle.std.specs.Prelude.{◌≡◌, ◌≢◌, ℕ, Bool, true, not, ◌==◌, List, [], ◌∷◌, map, Option, Some, None, ◌⊎◌}
-use Rattle.std.specs.Prelude.{filter}
+use Rattle.std.specs.Prelude.{◌≡◌, ◌≢◌, ℕ, Bool, true, not, ◌==◌, List, [], ◌∷◌, filter, map, Option, Some, None}
 use Rattle.slot_word.specs.declared.slots.Mark.TheVariants.{Live, Pending, Copied, Moved}
 use Rattle.kv_block.specs.Packing.{Pair}
 use Rattle.node_words.specs.Addresses.{slot_at}
 use Rattle.verb_log.specs.Decoded.{Body, Full}
 use Rattle.verb_log.specs.Tables.{Past, Before, table_of}
 use Rattle.race_laws.specs.Setting.{Setting, hash, places}
-use Rattle.race_laws.specs.Standing.{header_in, child_in, place_in, key_header, IsFilling, IsGone, Exits, Stays, Word}
+use Rattle.race_laws.specs.Standing.{header_in, child_in, place_in, key_header, IsFilling, IsGone, Exits, Stays, Word, IsIn}
 use Rattle.race_laws.specs.Chains.{OnChain}
 
 -- a slot's place, and the position at which it was read
@@ -19,10 +18,6 @@ pub record Reading : Type 0 where
 pub record Searched : Type 0 where
   pub table : ℕ
   pub seen : List Reading
-
-abbrev pub IsAmong : Reading → List Reading → Type 0
-IsAmong r [] = ⊥
-IsAmong r (x ∷ xs) = (r ≡ x) ⊎ IsAmong r xs
 
 -- the positions of the readings do not fall, from one position up to another
 abbrev pub InOrder : Past → List Reading → Past → Type 0
@@ -37,7 +32,7 @@ Between from (r ∷ rs) to = Before from r.at × Before r.at to × Between from 
 -- a copy of this block at this place answers: the reading of the same place in the table before showed it moved
 abbrev pub Answers : Setting → Option Searched → ℕ → Body → Type 0
 Answers s None p b = ⊥
-Answers s (Some before) p b = (r : Reading) × IsAmong r before.seen × (r.place ≡ p) × (place_in s.geometry r.at before.table p ≡ Full Moved b)
+Answers s (Some before) p b = (r : Reading) × IsIn r before.seen × (r.place ≡ p) × (place_in s.geometry r.at before.table p ≡ Full Moved b)
 
 -- what a reading may not show: a live word of the key, an answering copy of the key, and in a sweep a pending word of it
 pub record IsMiss (s : Setting) (key : List ℕ) (own : Option ℕ) (prev : Option Searched) (t : ℕ) (r : Reading) : Type 0 where
@@ -45,15 +40,17 @@ pub record IsMiss (s : Setting) (key : List ℕ) (own : Option ℕ) (prev : Opti
   pub copied : (b : Body) (q : Pair) → Word s.geometry r.at Copied t r.place b q → q.key ≡ key → Answers s prev r.place b → ⊥
   pub pending : (a : ℕ) → own ≡ Some a → (b : Body) (q : Pair) → Word s.geometry r.at Pending t r.place b q → q.key ≡ key → ⊥
 
+-- none of the readings shows the key
 abbrev pub AllMiss : Setting → List ℕ → Option ℕ → Option Searched → ℕ → List Reading → Type 0
 AllMiss s key own prev t [] = Unit {0}
 AllMiss s key own prev t (r ∷ rs) = IsMiss s key own prev t r × AllMiss s key own prev t rs
 
--- the places that are read in a table: the key's candidates without the own slot
+-- the slot at place p of table t is not the own slot
 abbrev pub is_other : Option ℕ → ℕ → ℕ → Bool
 is_other None t p = true
 is_other (Some a) t p = not (slot_at t p == a)
 
+-- the places that are read in a table: the key's candidates, in order, without the own slot
 abbrev pub read_places : Setting → List ℕ → Option ℕ → ℕ → List ℕ
 read_places s key own t = filter (is_other own t) (places s key)
 

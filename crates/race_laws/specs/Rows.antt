@@ -12,9 +12,9 @@ use Rattle.verb_log.specs.declared.kind.Kind.TheVariants.{Place}
 use Rattle.verb_log.specs.Decoded.{Body, Full, content, PlainAt, SplittingAt, FillingAt, header}
 use Rattle.verb_log.specs.Tables.{Past, Before, word_at, pair_at, is_taken_by, is_published}
 use Rattle.verb_log.specs.Kinds.{kind}
-use Rattle.race_laws.specs.Setting.{Setting, hash, places, print_of}
-use Rattle.race_laws.specs.Standing.{IsTable, header_in, birth_in, lock_in, child_in, bucket_in, place_in, depth, IsFilling, IsPlain, Exits, Word, IsIn}
-use Rattle.race_laws.specs.Chains.{OnChain, Holder}
+use Rattle.race_laws.specs.Setting.{Setting, print_of}
+use Rattle.race_laws.specs.Standing.{IsTable, header_in, birth_in, lock_in, child_in, bucket_in, place_in, depth, IsFilling, IsPlain, Exits, Word}
+use Rattle.race_laws.specs.Chains.{IsCandidate, Holder}
 use Rattle.race_laws.specs.Splits.{IsOpen, WasClear, IsQuiet, IsChild}
 use Rattle.race_laws.specs.Looks.{Swept}
 
@@ -41,24 +41,23 @@ pub record TakeRow (g : Geometry) (past : Past) (e : Entry) (k : ℕ) : Type 0 w
   pub goes_on : e.new ≡ e.old + step
   pub within : e.new ≤ (k + 1) * node_size g
 
--- a block that a slot may name for the first time: the packed form of a pair, of the stated length and fingerprint, of a
--- key that has the place as candidate in a table on its chain; where the table is filling, the same place of its parent
--- was clear for the split that made the table; and no word of the block was published
-pub record IsFresh (s : Setting) (past : Past) (c t p : ℕ) (b : Body) (q : Pair) : Type 0 where
+-- a block that a slot may name for the first time: the packed form of a pair, of the stated length and fingerprint, taken by
+-- the client, and no word of it was published
+pub record IsFresh (s : Setting) (past : Past) (c : ℕ) (b : Body) (q : Pair) : Type 0 where
   pub packs : pair_at s.geometry past b ≡ Some q
   pub print : b.print ≡ print_of s q.key
   pub unpublished : IsUnpublished s.geometry past b.at b.length
-  pub candidate : IsIn p (places s q.key)
-  pub chain : OnChain s.geometry past (hash s q.key) t
-  pub filling : IsFilling (header_in s.geometry past t) → WasClear s past (birth_in s.geometry past t).parent ((birth_in s.geometry past t).depth - 1) p
   pub taken : IsTakenBy s.geometry past c b.at b.length
 
--- Place: the new word names a fresh block
+-- Place: the new word names a fresh block, and the slot is a candidate of its key in a table on the chain; where that table
+-- is filling, the same place of its parent was clear for the split that made the table
 pub record PlaceRow (s : Setting) (past : Past) (e : Entry) (t p : ℕ) : Type 0 where
   pub body : Body
   pub pair : Pair
   pub word : content e.new ≡ Full Pending body
-  pub fresh : IsFresh s past e.client t p body pair
+  pub slot : IsCandidate s past t p pair.key
+  pub filling : IsFilling (header_in s.geometry past t) → WasClear s past (birth_in s.geometry past t).parent ((birth_in s.geometry past t).depth - 1) p
+  pub fresh : IsFresh s past e.client body pair
 
 -- the Place of the word that stands in the slot, and the sweep since then that found no word of its key
 pub record IsPlacedSwept (s : Setting) (past : Past) (e : Entry) (q : Pair) : Type 0 where
@@ -79,7 +78,8 @@ pub record CommitRow (s : Setting) (past : Past) (e : Entry) (t p : ℕ) : Type 
   pub packs : pair_at s.geometry past body ≡ Some pair
   pub swept : IsPlacedSwept s past e pair
 
--- Replace: the slot is the key's holder, and the new word names a fresh block of the same key
+-- Replace: the slot is the key's holder, and the new word names a fresh block of the same key. Nothing more is asked of the
+-- slot: it may stand in a filling table whose parent's place is still moved, and so was never clear
 pub record ReplaceRow (s : Setting) (past : Past) (e : Entry) (t p : ℕ) : Type 0 where
   pub body : Body
   pub pair : Pair
@@ -88,7 +88,7 @@ pub record ReplaceRow (s : Setting) (past : Past) (e : Entry) (t p : ℕ) : Type
   pub new_pair : Pair
   pub word : content e.new ≡ Full Live new_body
   pub same_key : new_pair.key ≡ pair.key
-  pub fresh : IsFresh s past e.client t p new_body new_pair
+  pub fresh : IsFresh s past e.client new_body new_pair
 
 -- Remove: the slot is the key's holder
 pub record RemoveRow (s : Setting) (past : Past) (e : Entry) (t p : ℕ) : Type 0 where
@@ -117,8 +117,8 @@ pub record IsNewborn (g : Geometry) (past : Past) (t i c : ℕ) : Type 0 where
   pub buckets : (m : ℕ) → m < 2 * g.groups → bucket_in g past c m ≡ FillingAt (i + 1)
   pub blank : (o : ℕ) → o < table_words g → IsBlank (offset_role c o) → word_at g past (c + o) ≡ 0
 
--- Link: no split touches the table, the level is its depth, and the new address is a table's region with the words of its
--- child, no one of them published
+-- Link: no split touches the table, the level is its depth, which is below the greatest, and the new address is a table's
+-- region with the words of its child, no one of them published
 pub record LinkRow (g : Geometry) (past : Past) (e : Entry) (t i : ℕ) : Type 0 where
   pub quiet : IsQuiet g past t
   pub level : header_in g past t ≡ PlainAt i
@@ -129,7 +129,7 @@ pub record LinkRow (g : Geometry) (past : Past) (e : Entry) (t i : ℕ) : Type 0
   pub own_lock : HasLock g past e.client e.new
   pub locked : HasLock g past e.client t
 
--- Begin: a child is linked at the depth
+-- Begin: the depth is below the greatest, and a child is linked at it
 pub record BeginRow (g : Geometry) (past : Past) (e : Entry) (t : ℕ) : Type 0 where
   pub below : depth (header e.old) < g.max_depth
   pub linked : child_in g past t (depth (header e.old)) ≢ 0
@@ -201,7 +201,7 @@ pub record ClearRow (g : Geometry) (past : Past) (e : Entry) (t p : ℕ) : Type 
 abbrev pub IsPlace : Geometry → ℕ → Type 0
 IsPlace g p = (p < 24 * g.groups) × (p % 8 ≢ 0)
 
--- Finish: each place was clear, none is moved, and no place of the child is a copy
+-- Finish: each place was clear for this split, none is moved, and no place of the child is a copy
 pub record FinishRow (s : Setting) (past : Past) (e : Entry) (t : ℕ) : Type 0 where
   pub clear : (p : ℕ) → IsPlace s.geometry p → WasClear s past t (depth (header e.old)) p
   pub none_moved : (p : ℕ) (b : Body) → IsPlace s.geometry p → place_in s.geometry past t p ≢ Full Moved b
@@ -225,15 +225,15 @@ pub record RipenHeaderRow (g : Geometry) (past : Past) (e : Entry) (t : ℕ) : T
   pub ripens : RipenRow g past e t
   pub buckets : (m : ℕ) → m < 2 * g.groups → IsPlain (bucket_in g past t m)
 
--- Name, of directory word j: the address is a table with this suffix whose split has opened; the old word is 0 or a table
--- of smaller birth depth
+-- Name, of directory word j: the address is a table with the suffix of j, and a first table or one whose split has finished
+-- (its parent has at least its birth depth); the old word is 0 or a table of smaller birth depth
 pub record NameRow (g : Geometry) (past : Past) (e : Entry) (j : ℕ) : Type 0 where
   pub is_table : IsTable g past e.new
   pub suffix : (birth_in g past e.new).suffix ≡ j % 2 ^ (birth_in g past e.new).depth
   pub ready : (e.new < first_free g) ⊎ ((birth_in g past e.new).depth ≤ depth (header_in g past (birth_in g past e.new).parent))
   pub shallower : (e.old ≡ 0) ⊎ (IsTable g past e.old × ((birth_in g past e.old).depth < (birth_in g past e.new).depth))
 
--- Deepen: the directory has its words up to the new depth
+-- Deepen: the new depth is at most the greatest, and no directory word below 2^(new depth) is 0
 pub record DeepenRow (g : Geometry) (past : Past) (e : Entry) : Type 0 where
   pub below : e.new ≤ g.max_depth
   pub named : (j : ℕ) → j < 2 ^ e.new → word_at g past (directory_at j) ≢ 0

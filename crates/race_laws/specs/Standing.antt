@@ -39,6 +39,7 @@ place_in g past t p = content (word_at g past (slot_at t p))
 abbrev pub key_header : Setting → Past → ℕ → List ℕ → Header
 key_header s past t key = bucket_in s.geometry past t (main_of s key)
 
+-- the depth that a header says, 0 where the word is no header
 abbrev pub depth : Header → ℕ
 depth (PlainAt d) = d
 depth (SplittingAt d) = d
@@ -73,6 +74,7 @@ pub record Word (g : Geometry) (past : Past) (m : Mark) (t p : ℕ) (b : Body) (
   pub stands : place_in g past t p ≡ Full m b
   pub packs : pair_at g past b ≡ Some q
 
-abbrev pub IsIn : ℕ → List ℕ → Type 0
+-- one of the elements of a list
+abbrev pub IsIn : {A : Type 0} → A → List A → Type 0
 IsIn p [] = ⊥
 IsIn p (q ∷ qs) = (p ≡ q) ⊎ IsIn p qs

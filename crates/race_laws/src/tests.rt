@@ -3,8 +3,8 @@ ghost use Rattle.std.specs.Prelude.{◌≡◌, ◌*◌, ◌^◌, ◌<◌, IfOk};
 mod steps;
 
 use crate::leaves;
-use bucket_group::{first_bucket, places};
-use kv_block::{Key, Value};
+use bucket_group::{fingerprint, first_bucket, places};
+use kv_block::{Key, Value, read_block};
 use map_model::{Call, Reply, map_at};
 use node_words::{Geometry, birth_at, bucket_header_at, header_at, slot_at};
 use slot_word::{Head, Mark, Slot, State, read_birth, read_head, read_slot};
@@ -13,9 +13,9 @@ use std::process::Abort;
 use std::test::Fail;
 use steps::{
     BEGUN, CHILD, CLEARED, COMMITTED, COMMITTED_AGAIN, COPIED, COPIED_OLD, FINISHED, FLIPPED,
-    IN_CHILD, IN_GROUP_0, IN_GROUP_1, INSERTED_BELOW, LINKED, LOWER, MOVED_NEW, MOVING, OPENED,
-    OPENED_FIRST, OTHER, PLACED, PLACED_AGAIN, REMOVED, REPLACED, RIPENED, SETTLED, SPLIT, STORED,
-    STORED_AGAIN, STORED_WIDE, Step, TABLE, UNCOPIED, UPPER,
+    IN_CHILD, IN_GROUP_0, IN_GROUP_1, INSERTED_BELOW, LINKED, LIVE, LOWER, MOVED_NEW, MOVING,
+    OPENED, OPENED_FIRST, OTHER, PLACED, PLACED_AGAIN, REMOVED, REPLACED, RIPENED, SETTLED, SPLIT,
+    STORED, STORED_AGAIN, STORED_WIDE, Step, TABLE, UNCOPIED, UPDATED_BELOW, UPPER,
 };
 use verb_log::{Entry, Log};
 
@@ -434,4 +434,38 @@ fn levels(rt: HostRuntime) {
         let head = Head { depth, state };
         assert!(rt; leaves(hash, birth_depth, &head) == level, "{hash} {depth}");
     }
+}
+
+/// An update between a Flip and its Clear. Before its last entry the child fills, the place of the parent is moved, so was never
+/// clear, and the same place of the child is live with `k`: the place is a candidate of `k`, and the parent's header leads to the
+/// child, so it is the holder. The new block is that of `k` and `2`, with the print of `k`, in words that the client took for it.
+#[test]
+fn an_update_below_a_moved_place(rt: HostRuntime) -> Result<(), Fail> {
+    let geometry = Geometry::check(1, 1, 0, 1, 600)?;
+    let (table, child, place) = (4, 51, 1);
+    let log = logged(&rt, rt.alloc(), geometry, UPDATED_BELOW)?;
+    let mut before = words_of(rt.alloc(), &geometry, &log)?;
+    if let Some(word) = before.get_mut(72) {
+        *word = LIVE + 48;
+    }
+    assert!(rt; !is_ripe(&before, child));
+    let above = slot_in(&before, table, place).ok_or("no slot")?;
+    let held = slot_in(&before, child, place).ok_or("no slot")?;
+    assert!(rt; above.mark == Mark::Moved && held.mark == Mark::Live && held.at == above.at);
+    let candidates = places(&geometry, HASH);
+    assert!(rt; candidates.get(0) == place);
+    assert!(rt; is_gone(HASH, &before, table, header_at(table)) == Some(true));
+    let words = words_of(rt.alloc(), &geometry, &log)?;
+    let slot = slot_in(&words, child, place).ok_or("no slot")?;
+    assert!(rt;
+        slot.mark == Mark::Live && slot.fp == fingerprint(HASH) && slot.at == 95 && slot.len == 3
+    );
+    let block = words.get(95..98).ok_or("no block")?;
+    let (key, value) = read_block(block).ok_or("no pair")?;
+    assert!(rt; key == Key::from_bytes(b"k").ok_or("no key")?);
+    assert!(rt; value == Value::from_bytes(b"2").ok_or("no value")?);
+    let changes = log.changes(rt.alloc())?;
+    let mut map = map_at(rt.alloc(), &changes, changes.len() as u64)?;
+    assert!(rt; map.step(&Call::Search { key })? == Some(reply_of(Some(b'2'))?));
+    Ok(())
 }

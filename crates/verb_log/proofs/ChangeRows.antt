@@ -11,16 +11,17 @@ use Rattle.verb_log.specs.declared.kind.Kind.{Kind}
 use Rattle.verb_log.specs.declared.kind.Kind.TheVariants.{Commit, Replace, Remove}
 use Rattle.verb_log.specs.declared.role.Role.TheVariants.{Slot}
 use Rattle.verb_log.specs.Decoded.{Content, Empty, Full, NoSlot, content}
-use Rattle.verb_log.specs.Tables.{words_at, role}
+use Rattle.verb_log.specs.declared.standing.Standing.{Standing}
+use Rattle.verb_log.specs.Tables.{words_at, may_store}
 use Rattle.verb_log.specs.Kinds.{kind, slot_kind}
 use Rattle.verb_log.specs.Changes.{pair_in, set_to, gone, changes_by, changes}
 use Rattle.verb_log.specs.Replay.{replay}
-use Rattle.verb_log.specs.PlainRoles.{plain_role}
 use Rattle.verb_log.specs.PlainKinds.{kind_of_plain}
+use Rattle.verb_log.specs.Standings.{standing_of, judged_there}
 use Rattle.verb_log.specs.Blocks.{pair_read, changes_read}
 use Rattle.verb_log.proofs.InOrder.{replay_push, length-replay}
 use Rattle.verb_log.proofs.Positions.{take_get, position_next}
-use Rattle.verb_log.proofs.Judged.{plain_kind}
+use Rattle.verb_log.proofs.Judged.{kind_said}
 use Rattle.verb_log.proofs.BlockWords.{range_is}
 
 pub pair_read-is : (g : Geometry) (ws : List ℕ) (l : List Entry) (c : Content) → ws ≡ replay g l → pair_read ws c ≡ pair_in g (reverse l) c
@@ -41,11 +42,11 @@ changes_read-is g ws l e (Some Replace) is = ap set_to (pair_read-is g ws l (con
 changes_read-is g ws l e (Some Remove) is = ap gone (pair_read-is g ws l (content e.old) is)
 changes_read-is g ws l e _ is = refl
 
--- the change of the entry at a place, whose word is a slot
-pub change_there : (g : Geometry) (l : List Entry) (n : ℕ) (ws : List ℕ) (e : Entry) (x : List Change) → ws ≡ replay g (take n l) → slice_get l n ≡ Some e → Slot ≡ plain_role (role g (reverse (take n l)) e.at) → x ≡ changes_read ws e (slot_kind (content e.old) (content e.new)) → (f : Entry) → slice_get l n ≡ Some f → x ≡ changes_by g (reverse (take n l)) f (kind g (reverse (take n l)) f)
-change_there g l n ws e x is there slot read f again =
+-- the change of the entry at a place, whose word is taken for a slot
+pub change_there : (g : Geometry) (l : List Entry) (n : ℕ) (ws : List ℕ) (e : Entry) (x : List Change) (s : Standing) → ws ≡ replay g (take n l) → slice_get l n ≡ Some e → s ≡ standing_of g (reverse (take n l)) e.at → Slot ≡ judged_there g s e.at → x ≡ changes_read ws e (slot_kind (content e.old) (content e.new)) → (f : Entry) → slice_get l n ≡ Some f → x ≡ changes_by g (reverse (take n l)) f (kind g (reverse (take n l)) f)
+change_there g l n ws e x s is there said slot read f again =
     let same : e ≡ f = cc in
-    let k : slot_kind (content e.old) (content e.new) ≡ kind g (reverse (take n l)) e = ap (kind_of_plain g (reverse (take n l)) e) slot ∙ sym (plain_kind g (reverse (take n l)) e (role g (reverse (take n l)) e.at)) in
+    let k : slot_kind (content e.old) (content e.new) ≡ kind g (reverse (take n l)) e = ap (kind_of_plain g (may_store g (reverse (take n l)) e.at) e) slot ∙ kind_said g (reverse (take n l)) e s said in
     read
     ∙ changes_read-is g ws (take n l) e (slot_kind (content e.old) (content e.new)) is
     ∙ ap (changes_by g (reverse (take n l)) e) k

@@ -69,3 +69,5 @@ WellMade-push g l e made within old =
 
 pub WellMade-pop : (g : Geometry) (l : List Entry) (e : Entry) → WellMade g (l ++ e ∷ []) → WellMade g l × Follows g (reverse l) e
 WellMade-pop g l e made = let m = subst (IsMade g) (reverse_push l e) made in (m.1, m.0)
+
+pub ruleset pushes = (WellMade-push)

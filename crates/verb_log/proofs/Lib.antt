@@ -3,9 +3,10 @@ pub mod Positions
 pub mod Linked
 pub mod Looks
 pub mod FirstTable
-pub mod Indexed
+pub mod Told
 pub mod HeadRows
 pub mod Judged
+pub mod Reaching
 pub mod BlockWords
 pub mod ChangeRows
 pub mod Rows

@@ -9,7 +9,7 @@ use Rattle.node_words.specs.Addresses.{table_words}
 use Rattle.node_words.specs.Roles.{first_table_of, role_in}
 use Rattle.node_words.proofs.FirstTables.{first_in}
 use Rattle.verb_log.specs.declared.entry.Entry.{Entry}
-use Rattle.verb_log.specs.Tables.{Past, is_among, or_else, links, linked_by, table_of, role, Before, here, later}
+use Rattle.verb_log.specs.Tables.{Past, is_among, or_else, links, linked_by, table_of, judged_role, Before, here, later}
 use Rattle.verb_log.specs.Links.{Link, older, link_of, table_then}
 use Rattle.verb_log.specs.Laws.{RolesStay}
 use Rattle.verb_log.proofs.InOrder.{reverse_cons}
@@ -30,7 +30,7 @@ pub record IsLinked (past : Past) (k : Link) : Type 0 where
 pub link_entry : (g : Geometry) (past : Past) (a : ℕ) (k : Link) → link_of g past a ≡ Some k → IsLinked past k
 link_entry g [] a k h = absurd (cc)
 link_entry g (e ∷ past) a k h =
-    elim (link_cases (links e (role g past e.at) && is_among e.new (table_words g) a) (length past) e.new (link_of g past a) k h) [
+    elim (link_cases (links g e (judged_role g past e.at) && is_among e.new (table_words g) a) (length past) e.new (link_of g past a) k h) [
       | inl was ↦ let x = link_entry g past a k was in record { entry = x.entry; there = ap (λ (l : List Entry). slice_get l k.number) (reverse_cons e past) ∙ get_left (reverse past) (e ∷ []) k.number x.entry x.there; table = x.table }
       | inr own ↦ record { entry = e; there = ap (λ (l : List Entry). slice_get l k.number) (reverse_cons e past) ∙ ap (slice_get (reverse past ++ e ∷ [])) (sym own.0 ∙ sym (length-reverse past)) ∙ get_last (reverse past) e; table = own.1 }
     ]
@@ -64,8 +64,8 @@ table_now g [] a = none (first_table_of g a)
     none None = refl
     none (Some t) = refl
 table_now g (e ∷ past) a =
-    ap (λ (o : Option ℕ). or_else o (cond (links e (role g past e.at) && is_among e.new (table_words g) a) (Some e.new) None)) (table_now g past a)
-    ∙ then_next (length past) e.new (links e (role g past e.at) && is_among e.new (table_words g) a) (link_of g past a) (first_table_of g a) (link_below g past a)
+    ap (λ (o : Option ℕ). or_else o (cond (links g e (judged_role g past e.at) && is_among e.new (table_words g) a) (Some e.new) None)) (table_now g past a)
+    ∙ then_next (length past) e.new (links g e (judged_role g past e.at) && is_among e.new (table_words g) a) (link_of g past a) (first_table_of g a) (link_below g past a)
 
 -- and at each position of it
 pub table_before : (g : Geometry) (p q : Past) (a : ℕ) → Before p q → table_of g p a ≡ or_else (first_table_of g a) (table_then (length p) (link_of g q a))
@@ -73,7 +73,7 @@ table_before g p q' a here = table_now g p a
 table_before g p (e ∷ q) a (later b) =
     let x = (position_take p q b).0 in
     table_before g p q a b
-    ∙ ap (or_else (first_table_of g a)) (sym (then_older (length p) (length q) e.new (links e (role g q e.at) && is_among e.new (table_words g) a) (link_of g q a) x))
+    ∙ ap (or_else (first_table_of g a)) (sym (then_older (length p) (length q) e.new (links g e (judged_role g q e.at) && is_among e.new (table_words g) a) (link_of g q a) x))
 
 pub table_take : (g : Geometry) (l : List Entry) (n a : ℕ) → n ≤ length l → table_of g (reverse (take n l)) a ≡ or_else (first_table_of g a) (table_then n (link_of g (reverse l) a))
 table_take g l n a h = table_before g (reverse (take n l)) (reverse l) a (Before-prefix l n) ∙ ap (λ (k : ℕ). or_else (first_table_of g a) (table_then k (link_of g (reverse l) a))) (length-position l n h)
@@ -81,11 +81,11 @@ table_take g l n a h = table_before g (reverse (take n l)) (reverse l) a (Before
 -- a first table is the table at each position
 pub table_first : (g : Geometry) (past : Past) (a t : ℕ) → first_table_of g a ≡ Some t → table_of g past a ≡ Some t
 table_first g [] a t h = h
-table_first g (e ∷ past) a t h = ap (λ (o : Option ℕ). or_else o (linked_by g e (role g past e.at) a)) (table_first g past a t h)
+table_first g (e ∷ past) a t h = ap (λ (o : Option ℕ). or_else o (linked_by g e (judged_role g past e.at) a)) (table_first g past a t h)
 
 -- an address stands at or behind its table's first word
-pub linked_low : (g : Geometry) (past : Past) (e : Entry) (a t : ℕ) → linked_by g e (role g past e.at) a ≡ Some t → t ≤ a
-linked_low g past e a t h = low (links e (role g past e.at)) h
+pub linked_low : (g : Geometry) (past : Past) (e : Entry) (a t : ℕ) → linked_by g e (judged_role g past e.at) a ≡ Some t → t ≤ a
+linked_low g past e a t h = low (links g e (judged_role g past e.at)) h
   where
     low : (b : Bool) → cond (b && is_among e.new (table_words g) a) (Some e.new) None ≡ Some t → t ≤ a
     low b h = grind (arith, nat_tests)
@@ -97,7 +97,7 @@ or_else_cases (Some u) p t h = inl h
 pub table_low : (g : Geometry) (past : Past) (a t : ℕ) → table_of g past a ≡ Some t → t ≤ a
 table_low g [] a t h = (first_in g a t h).from
 table_low g (e ∷ past) a t h =
-    elim (or_else_cases (table_of g past a) (linked_by g e (role g past e.at) a) t h) [
+    elim (or_else_cases (table_of g past a) (linked_by g e (judged_role g past e.at) a) t h) [
       | inl old ↦ table_low g past a t old
       | inr own ↦ linked_low g past e a t own
     ]
@@ -105,7 +105,7 @@ table_low g (e ∷ past) a t h =
 -- a table of an address stays its table
 pub table_stays : (g : Geometry) (p q : Past) (a t : ℕ) → Before p q → table_of g p a ≡ Some t → table_of g q a ≡ Some t
 table_stays g p q' a t here h = h
-table_stays g p (e ∷ q) a t (later b) h = ap (λ (o : Option ℕ). or_else o (linked_by g e (role g q e.at) a)) (table_stays g p q a t b h)
+table_stays g p (e ∷ q) a t (later b) h = ap (λ (o : Option ℕ). or_else o (linked_by g e (judged_role g q e.at) a)) (table_stays g p q a t b h)
 
 pub roles_stay : RolesStay
 roles_stay g log n m a t h is =

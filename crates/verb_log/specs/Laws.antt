@@ -1,24 +1,24 @@
 -- What the laws of kinds and roles say.
 use Rattle.std.specs.Prelude.{◌≡◌, ◌↔◌, ℕ, ◌≤◌, List, take, reverse, Some, None}
 use Rattle.node_words.specs.declared.geometry.Geometry.{Geometry}
-use Rattle.node_words.specs.Roles.{Role}
 use Rattle.verb_log.specs.declared.entry.Entry.{Entry}
 use Rattle.verb_log.specs.declared.kind.Kind.{Kind}
+use Rattle.verb_log.specs.declared.kind.Kind.TheVariants.{Store}
 use Rattle.verb_log.specs.Tables.{Past, table_of, role}
-use Rattle.verb_log.specs.Kinds.{kind_of_role}
-use Rattle.verb_log.specs.Fits.{Fits}
+use Rattle.verb_log.specs.Kinds.{kind}
+use Rattle.verb_log.specs.Fits.{Fits, IsFirstRow}
 
--- the kind is the one whose row fits
+-- the kind is the first row that fits
 abbrev pub RowsAreKinds : Type 0
-RowsAreKinds = (g : Geometry) (past : Past) (e : Entry) (r : Role) (k : Kind) → (kind_of_role g past e r ≡ Some k) ↔ Fits g past e r k
+RowsAreKinds = (g : Geometry) (past : Past) (e : Entry) (k : Kind) → (kind g past e ≡ Some k) ↔ IsFirstRow g past e (role g past e.at) k
 
 -- there is no kind exactly where no row fits
 abbrev pub NoRowNoKind : Type 0
-NoRowNoKind = (g : Geometry) (past : Past) (e : Entry) (r : Role) → (kind_of_role g past e r ≡ None) ↔ ((k : Kind) → Fits g past e r k → ⊥)
+NoRowNoKind = (g : Geometry) (past : Past) (e : Entry) → (kind g past e ≡ None) ↔ ((k : Kind) → Fits g past e (role g past e.at) k → ⊥)
 
--- at most one row fits an entry, on a word of any role
+-- where the row Store does not fit, at most one row does
 abbrev pub OneRow : Type 0
-OneRow = (g : Geometry) (past : Past) (e : Entry) (r : Role) (j k : Kind) → Fits g past e r j → Fits g past e r k → j ≡ k
+OneRow = (g : Geometry) (past : Past) (e : Entry) (j k : Kind) → (Fits g past e (role g past e.at) Store → ⊥) → Fits g past e (role g past e.at) j → Fits g past e (role g past e.at) k → j ≡ k
 
 -- an address that stands in a table at a position of a log stands in that table, with the same role, at each later one
 abbrev pub RolesStay : Type 0

@@ -6,10 +6,11 @@ pub mod Replay
 pub mod Recorded
 pub mod Links
 pub mod PlainRoles
-pub mod Kept
 pub mod Contents
 pub mod HeadKinds
 pub mod PlainKinds
+pub mod Standings
+pub mod Indexed
 pub mod Blocks
 pub mod Fits
 pub mod Laws

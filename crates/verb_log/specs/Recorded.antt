@@ -8,3 +8,8 @@ pub record Recorded : Type 0 where
   pub geometry : Geometry
   pub entries : List Entry
   pub room : ℕ
+
+-- what a clause sees of a log with its index: the memory's sizes, and the entries in order
+pub record Listed : Type 0 where
+  pub geometry : Geometry
+  pub entries : List Entry

@@ -7,7 +7,7 @@ ghost use Rattle.verb_log.specs.Changes.{changes_by, changes};
 ghost use Rattle.verb_log.specs.Replay.{replay};
 
 use crate::blocks::slot_change;
-use crate::log::Log;
+use crate::indexed::IndexedLog;
 use crate::role::Role;
 use kv_block::{Change, Changes};
 use node_words::Geometry;
@@ -24,11 +24,9 @@ fn opening_words(alloc: Global, geometry: &Geometry) -> Result<Vec<u64>, AllocEr
     Ok(words)
 }
 
-impl Log {
-    /// The changes of the map that the log makes, oldest first: a Commit and a Replace set the pair of the block
-    /// that the new word names, and a Remove takes away the pair of the block that the old word names. An entry
-    /// whose block does not read as a pair, which no legal log has, gives none. It goes over the entries once, over
-    /// words of its own.
+impl<'a> IndexedLog<'a> {
+    /// The changes of the map that the log makes, as `Log::changes` lists them. It goes over the entries once, over words
+    /// of its own.
     pub fn changes(&self, alloc: Global) -> Result<Changes, AllocError>
         ensures { IfOk result (λ list. list.items ≡ changes self.now.geometry (reverse self.now.entries)) }
     {
@@ -53,7 +51,7 @@ impl Log {
             (kind self.now.geometry (reverse (take n self.now.entries)) e) }
     {
         let entry = self.entry(n);
-        match self.role_at(n, entry.at) {
+        match self.standing(n, entry.at).judged_role(self.geometry(), entry.at) {
             Role::Slot => slot_change(words, &entry),
             _ => None,
         }

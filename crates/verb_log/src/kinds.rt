@@ -1,12 +1,13 @@
 ghost use Rattle.std.specs.Prelude.{◌≡◌, Some};
 ghost use Rattle.verb_log.specs.Decoded.{Body, Empty, Full, content, header, header_with};
-ghost use Rattle.verb_log.specs.Tables.{is_among, covers};
+ghost use Rattle.verb_log.specs.Tables.{is_among, is_address, covers};
 ghost use Rattle.verb_log.specs.Kinds.{slot_kind, header_kind, bucket_kind, lock_kind};
 ghost use Rattle.verb_log.specs.HeadKinds.{head_kind};
 ghost use Rattle.verb_log.specs.Contents.{IsRead, body_of, shown};
 
 use crate::entry::Entry;
 use crate::kind::Kind;
+use node_words::Geometry;
 use slot_word::{Head, Mark, Slot, State, read_head, read_slot};
 
 /// What stands in a slot.
@@ -41,6 +42,14 @@ pub(crate) fn is_among(from: u64, count: u64, at: u64) -> bool
     ensures { result ≡ is_among from count at }
 {
     from <= at && at - from < count
+}
+
+/// Whether a word is the address of a word that may be named: 1 to the memory's words less 1.
+#[tactic(auto, using(std::proofs::lemmas::Bool::Decides::nat_tests))]
+pub(crate) fn names_word(geometry: &Geometry, word: u64) -> bool
+    ensures { result ≡ is_address geometry.now word }
+{
+    word != 0 && word < geometry.words
 }
 
 /// Whether the block that a word names in a slot covers an address.

@@ -8,15 +8,20 @@
 mod blocks;
 mod changing;
 pub mod entry;
+mod index;
+mod indexed;
 mod judging;
 pub mod kind;
 mod kinds;
 pub mod laws;
 mod links;
 mod log;
+mod reach;
 mod role;
+mod standing;
 
 pub use entry::{Entry, Verb};
+pub use indexed::IndexedLog;
 pub use kind::Kind;
 pub use log::Log;
 

@@ -1,12 +1,10 @@
-ghost use Rattle.std.specs.Prelude.{◌≡◌, ℕ, ◌+◌, ◌<◌, ◌≤◌, [], ◌∷◌, ◌++◌, length, reverse, take, Some, slice_get, slice_index, IfSome, OnOk, OnErr, IsOk};
-ghost use Rattle.verb_log.specs.Tables.{links, table_of, role};
+ghost use Rattle.std.specs.Prelude.{◌≡◌, ◌+◌, ◌<◌, ◌≤◌, [], ◌∷◌, ◌++◌, length, reverse, Some, slice_get, slice_index, OnOk, OnErr, IfOk, IsOk};
 ghost use Rattle.verb_log.specs.Replay.{replay, WellMade};
-ghost use Rattle.verb_log.specs.Links.{link_of, table_then};
-ghost use Rattle.verb_log.specs.PlainRoles.{plain_role};
+ghost use Rattle.verb_log.specs.Changes.{changes};
 
 use crate::entry::Entry;
-use crate::links::tell_link;
-use crate::role::{Role, first_table_of, outer_role, table_role};
+use crate::indexed::IndexedLog;
+use kv_block::Changes;
 use node_words::Geometry;
 use std::alloc::{AllocError, Global};
 use std::marker::Model;
@@ -19,25 +17,22 @@ use std::marker::Model;
 pub struct Log {
     geometry: Geometry,
     entries: Vec<Entry>,
-    /// For each word the number of the oldest entry that linked a table in which it stands. No word is told of
-    /// before the first `reserve`.
-    links: Vec<Option<u64>>,
 }
 
 impl Model for Log {
-    ghost use Rattle.std.specs.Prelude.{◌-◌, ◌==◌, cond, vec_len, vec_capacity};
+    ghost use Rattle.std.specs.Prelude.{◌-◌, vec_len, vec_capacity};
     ghost use Rattle.verb_log.specs.Recorded.{Recorded};
-    ghost use Rattle.verb_log.specs.Kept.{IsKept};
+    ghost use Rattle.verb_log.specs.Replay.{WellMade};
 
     ghost Value = { Recorded };
 
     ghost view = { λ log. record {
       geometry = log.geometry;
       entries = log.entries.items;
-      room = cond (vec_len log.links == 0) 0 (vec_capacity log.entries - vec_len log.entries);
+      room = vec_capacity log.entries - vec_len log.entries;
     } };
 
-    ghost invariant = { λ log. IsKept log.geometry log.entries.items log.links.items };
+    ghost invariant = { λ log. WellMade log.geometry log.entries.items };
 }
 
 impl Log {
@@ -50,12 +45,10 @@ impl Log {
         Log {
             geometry,
             entries: Vec::new(alloc),
-            links: Vec::new(alloc),
         }
     }
 
-    /// Makes room for at least one more entry. The first call takes two words for each word of the memory. A refusal
-    /// changes nothing.
+    /// Makes room for at least one more entry. A refusal changes nothing.
     pub fn reserve(&mut self) -> Result<(), AllocError>
         ensures entries { self.new.entries ≡ self.old.entries }
         ensures geometry { self.new.geometry ≡ self.old.geometry }
@@ -65,10 +58,15 @@ impl Log {
         ensures grows { self.old.room ≤ self.new.room }
         ensures succeeds { 1 ≤ self.old.room → IsOk result }
     {
-        if self.links.is_empty() {
-            self.links.resize(self.geometry.words as usize, None)?;
-        }
         self.entries.reserve(1)
+    }
+
+    /// The sizes of the memory.
+    pub fn geometry(&self) -> &Geometry
+        ensures value { result.now ≡ self.now.geometry }
+        ensures made { WellMade self.now.geometry self.now.entries }
+    {
+        &self.geometry
     }
 
     /// How many entries there are.
@@ -105,7 +103,8 @@ impl Log {
 
     /// Appends an entry, which stands below the memory's words and whose old word is the one that stands at its
     /// address. It answers Ok where there is room for one more. A refusal leaves the log as it was. Over many calls it
-    /// costs a constant time for each entry, and a table's words for each that links a table.
+    /// costs a constant time for each entry.
+    #[tactic(auto, using(crate::proofs::InOrder::pushes))]
     pub fn push(&mut self, entry: Entry) -> Result<(), AllocError>
         requires within { entry.at < self.old.geometry.words }
         requires old { entry.old ≡ slice_index (replay self.old.geometry self.old.entries) entry.at }
@@ -116,71 +115,26 @@ impl Log {
         ensures refused { OnErr result (self.new ≡ self.old) }
         ensures succeeds { 1 ≤ self.old.room → IsOk result }
     {
-        self.reserve()?;
-        let number = self.entries.len() as u64;
-        if self.links_table(&entry) {
-            let size = self.geometry.table_words();
-            tell_link(&mut self.links, entry.new, size, number);
-        }
+        self.entries.reserve(1)?;
         self.entries.push_reserved(entry);
         Ok(())
     }
 
-    /// Whether an entry that may follow the log links a table.
-    fn links_table(&self, entry: &Entry) -> bool
-        requires { entry.now.at < self.now.geometry.words }
-        ensures { result ≡ links entry.now (role self.now.geometry (reverse self.now.entries) entry.now.at) }
+    /// The log with an index, which tells each kind in a constant time. The index takes six words for each word of the
+    /// memory, and its making a constant time for each entry and for each word that an entry links, takes or publishes.
+    pub fn indexed(&self, alloc: Global) -> Result<IndexedLog<'_>, AllocError>
+        ensures geometry { IfOk result (λ log. log.geometry ≡ self.now.geometry) }
+        ensures entries { IfOk result (λ log. log.entries ≡ self.now.entries) }
     {
-        entry.old == 0 && entry.new != 0 && self.role_at(self.len(), entry.at) == Role::Child
+        IndexedLog::new(alloc, &self.geometry, &self.entries)
     }
 
-    /// The table of the oldest link in which an address stands, where one of the first `n` entries made it.
-    fn linked_table_at(&self, n: u64, at: u64) -> Option<u64>
-        requires position { n ≤ length self.now.entries }
-        requires at { at < self.now.geometry.words }
-        ensures { result ≡ table_then n (link_of self.now.geometry (reverse self.now.entries) at) }
+    /// The changes of the map that the log makes, oldest first: a Commit and a Replace set the pair of the block
+    /// that the new word names, and a Remove takes away the pair of the block that the old word names. An entry
+    /// whose block does not read as a pair, which no legal log has, gives none. It makes the index by itself.
+    pub fn changes(&self, alloc: Global) -> Result<Changes, AllocError>
+        ensures { IfOk result (λ list. list.items ≡ changes self.now.geometry (reverse self.now.entries)) }
     {
-        if self.links.is_empty() {
-            return None;
-        }
-        let number = self.links[at as usize]?;
-        if number < n {
-            Some(self.entries[number as usize].new)
-        } else {
-            None
-        }
-    }
-
-    /// The table in which an address stands in the log of the first `n` entries.
-    fn table_at(&self, n: u64, at: u64) -> Option<u64>
-        requires position { n ≤ length self.now.entries }
-        requires at { at < self.now.geometry.words }
-        ensures table { result ≡ table_of self.now.geometry (reverse (take n self.now.entries)) at }
-        ensures below { IfSome result (λ table. table ≤ at) }
-    {
-        match first_table_of(&self.geometry, at) {
-            Some(table) => Some(table),
-            None => self.linked_table_at(n, at),
-        }
-    }
-
-    /// The role of the word at an address in the log of the first `n` entries.
-    pub(crate) fn role_at(&self, n: u64, at: u64) -> Role
-        requires position { n ≤ length self.now.entries }
-        requires at { at < self.now.geometry.words }
-        ensures { result ≡ plain_role (role self.now.geometry (reverse (take n self.now.entries)) at) }
-    {
-        match self.table_at(n, at) {
-            Some(table) => table_role(table, at - table),
-            None => outer_role(&self.geometry, at),
-        }
-    }
-
-    /// The sizes of the memory.
-    pub(crate) fn geometry(&self) -> &Geometry
-        ensures value { result.now ≡ self.now.geometry }
-        ensures made { WellMade self.now.geometry self.now.entries }
-    {
-        &self.geometry
+        self.indexed(alloc)?.changes(alloc)
     }
 }

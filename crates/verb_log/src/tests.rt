@@ -41,6 +41,12 @@ fn play(
         assert!(rt; log.entry(number) == entry, "entry {n}");
         assert!(rt; log.kind_of(number) == kind, "the kind of entry {n}");
     }
+    let indexed = log.indexed(alloc)?;
+    for (n, &(_, _, _, _, kind)) in entries.iter().enumerate() {
+        let number = n as u64;
+        assert!(rt; number < indexed.len(), "{n} entries");
+        assert!(rt; indexed.kind_of(number) == kind, "the kind of entry {n} by the index");
+    }
     let changes = log.changes(alloc)?;
     assert_eq!(rt; changes.len(), values.len());
     for (change, digit) in changes.as_slice().iter().zip(values) {
@@ -199,4 +205,88 @@ fn two_splits(rt: HostRuntime) -> Result<(), Fail> {
         &entries,
         &[Some(b'1'), Some(b'2'), None],
     )
+}
+
+/// A log that is not legal: its entries with their kinds.
+type Illegal = (&'static str, &'static [Judged]);
+
+const ILLEGAL: [Illegal; 6] = [
+    (
+        "a word of a table that was taken is stored: the row Store stands first",
+        &[
+            (0, 0, 47, 3, None),
+            (0, 0, 3, 47, Some(Kind::Take)),
+            (256, 4, 256, 5, Some(Kind::Store)),
+        ],
+    ),
+    (
+        "whatever its role: a slot, a lock, a child word and the next word itself",
+        &[
+            (0, 0, 47, 0, None),
+            (0, 0, 0, 47, Some(Kind::Take)),
+            (0, 24, 0, PLACED, Some(Kind::Store)),
+            (0, 5, 0, 1, Some(Kind::Store)),
+            (0, 7, 0, 60, Some(Kind::Store)),
+            (0, 0, 47, 50, Some(Kind::Store)),
+        ],
+    ),
+    (
+        "a store to a child word links no table, and one to a next word takes no word",
+        &[
+            (0, 0, 47, 0, None),
+            (0, 0, 0, 47, Some(Kind::Take)),
+            (0, 7, 0, 60, Some(Kind::Store)),
+            (0, 62, 0, 1, None),
+            (0, 0, 47, 50, Some(Kind::Store)),
+            (0, 48, 0, 1, None),
+        ],
+    ),
+    (
+        "a published word is stored no more, and has its role's kinds",
+        &[
+            (0, 0, 47, 50, Some(Kind::Take)),
+            (0, 7, 0, 47, Some(Kind::Link)),
+            (0, 47, 0, 1, None),
+            (0, 49, 0, 1, Some(Kind::Lock)),
+        ],
+    ),
+    (
+        "an address is at most the words less 1",
+        &[
+            (0, 7, 0, 100, None),
+            (0, 2, 3, 100, None),
+            (0, 2, 100, 99, Some(Kind::Name)),
+            (0, 7, 100, 0, None),
+            (0, 7, 0, 99, Some(Kind::Link)),
+        ],
+    ),
+    (
+        "an address is not 0",
+        &[(0, 2, 3, 0, None), (0, 7, 0, 0, None)],
+    ),
+];
+
+/// The word of a pending slot whose block of 3 words is at 48.
+const PLACED: u64 = 914793674309680;
+
+/// Logs of no legal run: where several rows fit an entry, the first of the table is its kind, and where none does it has none.
+#[test]
+fn logs_that_are_not_legal(rt: HostRuntime) -> Result<(), Fail> {
+    for (_, entries) in ILLEGAL {
+        play(&rt, rt.alloc(), geometry_of(0, 0, 1, 100)?, entries, &[])?;
+    }
+    Ok(())
+}
+
+/// A Take that runs past its node takes no word of the next one: in the second node word 150 is taken by no Take of the first.
+#[test]
+fn a_take_past_its_node(rt: HostRuntime) -> Result<(), Fail> {
+    let entries = [
+        (0, 0, 47, 160, Some(Kind::Take)),
+        (0, 99, 0, 1, Some(Kind::Store)),
+        (0, 150, 0, 1, None),
+        (0, 100, 101, 151, Some(Kind::Take)),
+        (0, 150, 1, 2, Some(Kind::Store)),
+    ];
+    play(&rt, rt.alloc(), geometry_of(0, 0, 2, 200)?, &entries, &[])
 }

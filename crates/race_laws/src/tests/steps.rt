@@ -149,3 +149,33 @@ pub(super) const MOVING: &[&[Step]] = &[STORED, PLACED, COMMITTED, LINKED, BEGUN
 
 /// The first table opens before its bucket headers begin, and `k` is inserted between.
 pub(super) const OPENED_FIRST: &[&[Step]] = &[STORED, LINKED, OPENED, PLACED, COMMITTED, BEGUN];
+
+/// In tables of one group, greatest depth 1: client 0 inserts `k` with `1`, client 1 splits the table as far as the Flip of `k`,
+/// and client 2 updates `k` to `2`. Its Settle and its Replace are in the child.
+pub(super) const UPDATED_BELOW: &[Step] = &[
+    (0, 0, 48, 51, Kind::Take),
+    (0, 48, 0, 65537, Kind::Store),
+    (0, 49, 0, 107, Kind::Store),
+    (0, 50, 0, 49, Kind::Store),
+    (0, 25, 0, PENDING + 48, Kind::Place),
+    (0, 25, PENDING + 48, LIVE + 48, Kind::Commit),
+    (1, 6, 0, 2, Kind::Lock),
+    (1, 0, 51, 95, Kind::Take),
+    (1, 51, 0, 67109121, Kind::Store),
+    (1, 52, 0, 769, Kind::Store),
+    (1, 53, 0, 2, Kind::Store),
+    (1, 71, 0, 769, Kind::Store),
+    (1, 87, 0, 769, Kind::Store),
+    (1, 8, 0, 51, Kind::Link),
+    (1, 24, 256, 512, Kind::Begin),
+    (1, 40, 256, 512, Kind::Begin),
+    (1, 5, 256, 512, Kind::Open),
+    (1, 72, 0, COPY + 48, Kind::Copy),
+    (1, 25, LIVE + 48, MOVED + 48, Kind::Flip),
+    (2, 0, 95, 98, Kind::Take),
+    (2, 95, 0, 65537, Kind::Store),
+    (2, 96, 0, 107, Kind::Store),
+    (2, 97, 0, 50, Kind::Store),
+    (2, 72, COPY + 48, LIVE + 48, Kind::Settle),
+    (2, 72, LIVE + 48, LIVE + 95, Kind::Replace),
+];
