@@ -9,3 +9,6 @@ mod chunks;
 mod words;
 
 pub use words::SparseWords;
+
+#[cfg(test)]
+mod tests;
