@@ -1,5 +1,5 @@
 -- The opening words are put one by one, and then the words are those of the opening.
-use Rattle.std.proofs.Common.{◌≡◌, ◌≢◌, ℕ, ◌+◌, ◌*◌, ◌/◌, ◌%◌, ◌<◌, ◌≤◌, List, length, slice_set, sym, ap, ◌∙◌, subst, inl, inr, arith}
+use Rattle.std.proofs.Common.{◌≡◌, ◌≢◌, ℕ, ◌+◌, ◌*◌, ◌/◌, ◌%◌, ◌<◌, List, length, slice_set, sym, ap, ◌∙◌, subst, inl, inr, arith}
 use Rattle.std.specs.Prelude.{slice_index, replicate}
 use Rattle.std.proofs.lemmas.List.{length-set, length-replicate, ext_get_or, get_or-set_same, get_or-set_other, get_or_past}
 use Rattle.std.proofs.lemmas.List.Elements.{All-replicate}
@@ -81,13 +81,13 @@ begun-all : (g : Geometry) (words : List ℕ) → Begun g (first_free g) g.nodes
 begun-all g words b a low = elim (cases_lt a (first_free g)) [
   | inl l ↦ b.front a l
   | inr h ↦ elim (cases_eq (a % node_size g) 0) [
-      | inl e ↦
-          let k = a / node_size g in
-          let p : a ≡ node_at g k = node_at_is g a e in
-          let n : k < g.nodes = subst (λ (j : ℕ). j < g.nodes) (node_of-div g a) (node_below g a low) in
-          ap (slice_index words) p ∙ b.nexts k n ∙ ap (opening_word g) (sym p)
-      | inr n ↦ b.rest a h (λ k l e. n (ap (λ (i : ℕ). i % node_size g) e ∙ node_at-mod g k)) ∙ sym (opening_heap g a h n)
-    ]
+    | inl e ↦
+        let k = a / node_size g in
+        let p : a ≡ node_at g k = node_at_is g a e in
+        let n : k < g.nodes = subst (λ (j : ℕ). j < g.nodes) (node_of-div g a) (node_below g a low) in
+        ap (slice_index words) p ∙ b.nexts k n ∙ ap (opening_word g) (sym p)
+    | inr n ↦ b.rest a h (λ k l e. n (ap (λ (i : ℕ). i % node_size g) e ∙ node_at-mod g k)) ∙ sym (opening_heap g a h n)
+  ]
 ]
 
 pub begun-opening : (g : Geometry) (words : List ℕ) → Begun g (first_free g) g.nodes words → words ≡ opening g
@@ -106,5 +106,7 @@ pub front-within : (g : Geometry) (at : ℕ) → at < first_free g → at < g.wo
 front-within g at h = let a = first_free_words g in omega (arith, a)
 
 pub ruleset puts = (begun-none, begun-front, begun-next, front-within)
+
 pub ruleset places = (next-within, next-is)
+
 pub ruleset ends = (begun-opening)
