@@ -1,5 +1,5 @@
 -- Words in chunks: a chunk is made, and a word is put into it.
-use Rattle.std.proofs.Common.{◌≡◌, ◌≢◌, ℕ, zero, suc, ◌+◌, ◌-◌, ◌*◌, ◌/◌, ◌%◌, ◌<◌, ◌≤◌, ◌==◌, if◌then◌else◌, Bool, true, false, List, [], ◌∷◌, ◌++◌, length, slice_set, slice_index_or, Vec, Option, Some, None, All, get_or, nat_eq, refl, sym, ap, ◌∙◌, subst, inl, inr, arith}
+use Rattle.std.proofs.Common.{◌≡◌, ◌≢◌, ℕ, zero, suc, ◌/◌, ◌%◌, ◌<◌, ◌≤◌, ◌==◌, if◌then◌else◌, Bool, true, false, List, [], ◌∷◌, ◌++◌, length, slice_set, Vec, Option, Some, All, get_or, nat_eq, refl, sym, ap, ◌∙◌, inl, inr, arith}
 use Rattle.std.specs.Prelude.{slice_get}
 use Rattle.std.proofs.lemmas.Bool.{cases_eq, cases_lt}
 use Rattle.std.proofs.lemmas.Bool.Decides.{nat_tests}
@@ -77,11 +77,11 @@ put-word xs at w c d low there room is a = elim (cases_eq (a / 4096) (at / 4096)
   | inl e ↦
       let k = a % 4096 in
       let now : chunk_word (slice_get (slice_set xs (at / 4096) d) (a / 4096)) k ≡ get_or (slice_set c.items (at % 4096) w) k 0 =
-          ap (λ (n : ℕ). chunk_word (slice_get (slice_set xs (at / 4096) d) n) k) e
-          ∙ ap (λ (o : Option (Vec ℕ Global)). chunk_word o k) (get_set-same xs (at / 4096) d low)
-          ∙ ap (λ (ys : List ℕ). get_or ys k 0) is in
+      ap (λ (n : ℕ). chunk_word (slice_get (slice_set xs (at / 4096) d) n) k) e
+      ∙ ap (λ (o : Option (Vec ℕ Global)). chunk_word o k) (get_set-same xs (at / 4096) d low)
+      ∙ ap (λ (ys : List ℕ). get_or ys k 0) is in
       let old : chunk_word (slice_get xs (a / 4096)) k ≡ get_or c.items k 0 =
-          ap (λ (n : ℕ). chunk_word (slice_get xs n) k) e ∙ ap (λ (o : Option (Vec ℕ Global)). chunk_word o k) there in
+      ap (λ (n : ℕ). chunk_word (slice_get xs n) k) e ∙ ap (λ (o : Option (Vec ℕ Global)). chunk_word o k) there in
       elim (cases_eq k (at % 4096)) [
         | inl f ↦
             let same = same_place a at e f in
@@ -119,6 +119,9 @@ empty-more (x ∷ xs) c h e zero d l = h 0 d (omega arith)
 empty-more (x ∷ xs) c h e (suc j) d l = empty-more xs c (λ i f m. h (suc i) f (omega arith)) e j d (omega arith)
 
 pub ruleset empties = (zero-there, whole-empty, empty-more)
+
 pub ruleset opens = (opened)
+
 pub ruleset puts = (put-word)
+
 pub ruleset spares = (whole-items, no-items)

@@ -1,5 +1,4 @@
-use Rattle.std.proofs.Common.{◌≡◌, All, ℕ, ◌+◌, ◌/◌, ◌%◌, ◌<◌, ◌≤◌, length, Vec, Some, List, slice_set, get_or, sym, ap, subst, ◌∙◌, arith, refl}
-use Rattle.std.specs.Prelude.{slice_get}
+use Rattle.std.proofs.Common.{◌≡◌, All, ℕ, ◌/◌, length, Vec, List, sym, ap, subst, ◌∙◌}
 use Rattle.sparse_words.specs.Chunks.{IsChunk, IsZero}
 use Rattle.std.specs.declared.alloc.Global.{Global}
 use Rattle.sparse_words.proofs.ChunkWords.{opened, get_set-same, there-at, same-there, get-there, no-items, whole-items}
