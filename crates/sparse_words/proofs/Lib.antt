@@ -1,0 +1,2 @@
+mod ChunkWords
+mod Lists

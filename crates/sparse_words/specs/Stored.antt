@@ -1,0 +1,8 @@
+-- The words of chunks, by address.
+use Rattle.std.specs.Prelude.{ℕ, ◌/◌, ◌%◌, slice_get}
+use Rattle.sparse_words.specs.declared.chunks.Chunks.{Chunks}
+use Rattle.sparse_words.specs.Chunks.{chunk_word}
+
+-- the word at an address
+abbrev pub word_of : Chunks → ℕ → ℕ
+word_of c at = chunk_word (slice_get c.chunks.items (at / 4096)) (at % 4096)

@@ -1,0 +1,110 @@
+//! Words by address in chunks, which are 0 where nothing was put.
+ghost use Rattle.std.specs.Prelude.{◌≡◌, All, IfOk, length};
+ghost use Rattle.sparse_words.specs.Chunks.{IsChunk, IsZero, IsEmpty};
+
+use std::alloc::{AllocError, Global};
+
+// Chunks of 4,096 words, of which those that nothing was put into are empty, and a chunk of zeros to spare, or none.
+#[derive(Debug, Drop)]
+pub struct Chunks {
+    chunks: Vec<Vec<u64>>,
+    spare: Vec<u64>,
+    ghost whole: { All IsChunk chunks.items },
+    ghost ready: { IsChunk spare × All IsZero spare.items },
+}
+
+// So many chunks that nothing was put into.
+#[tactic(auto, using(crate::proofs::ChunkWords::empties))]
+fn empty_chunks(alloc: Global, count: usize) -> Result<Vec<Vec<u64>>, AllocError>
+    ensures len { IfOk result (λ v. length v.items ≡ count) }
+    ensures empty { IfOk result (λ v. All IsEmpty v.items) }
+{
+    let mut chunks = Vec::with_capacity(alloc, count)?;
+    for _ in 0..count {
+        chunks.push(Vec::new(alloc))?;
+    }
+    Ok(chunks)
+}
+
+impl Chunks {
+    ghost use Rattle.std.specs.Prelude.{ℕ, ◌+◌, ◌*◌, ◌/◌, ◌%◌, ◌<◌, ◌==◌, if◌then◌else◌, Vec, [], Some, slice_get, OnOk, OnErr, IsOk};
+    ghost use Rattle.std.specs.declared.alloc.Global.{Global};
+    ghost use Rattle.sparse_words.specs.Stored.{word_of};
+
+    // Words that are all 0, for addresses below `len`, and no spare chunk.
+    #[tactic(auto, using(crate::proofs::ChunkWords::empties))]
+    pub fn zeroed(alloc: Global, len: u64) -> Result<Chunks, AllocError>
+        ensures zero { IfOk result (λ c. (a : ℕ) → word_of c a ≡ 0) }
+        ensures wide { IfOk result (λ c. len < 4096 * length c.chunks.items) }
+        ensures spare { IfOk result (λ c. c.spare.items ≡ []) }
+    {
+        Ok(Chunks {
+            chunks: empty_chunks(alloc, (len / 4096 + 1) as usize)?,
+            spare: Vec::new(alloc),
+        })
+    }
+
+    // Makes the spare chunk, where there is none. A refusal changes nothing.
+    #[tactic(auto, using(crate::proofs::ChunkWords::spares))]
+    pub fn reserve(&mut self) -> Result<(), AllocError>
+        ensures words { self.new.chunks ≡ self.old.chunks }
+        ensures spare { OnOk result (length self.new.spare.items ≡ 4096) }
+        ensures refused { OnErr result (length self.new.spare.items ≡ length self.old.spare.items) }
+        ensures succeeds { length self.old.spare.items ≡ 4096 → IsOk result }
+    {
+        if self.spare.is_empty() {
+            self.spare.resize(4096, 0)?;
+        }
+        Ok(())
+    }
+
+    // The word at an address.
+    pub fn word(&self, at: u64) -> u64
+        ensures { result ≡ word_of self.now at }
+    {
+        match self.chunks.get((at / 4096) as usize) {
+            Some(chunk) => match chunk.get((at % 4096) as usize) {
+                Some(word) => *word,
+                None => 0,
+            },
+            None => 0,
+        }
+    }
+
+    // Makes the chunk of an address, where nothing was put into it, of the spare one.
+    #[tactic(auto, using(crate::proofs::ChunkWords::opens))]
+    fn open(&mut self, at: u64)
+        requires place { at / 4096 < length self.old.chunks.items }
+        requires spare { length self.old.spare.items ≡ 4096 }
+        ensures words { (a : ℕ) → word_of self.new a ≡ word_of self.old a }
+        ensures there { (c : Vec ℕ Global) → slice_get self.new.chunks.items (at / 4096) ≡ Some c → length c.items ≡ 4096 }
+        ensures len { length self.new.chunks.items ≡ length self.old.chunks.items }
+    {
+        let i = (at / 4096) as usize;
+        if self.chunks[i].is_empty() {
+            std::mem::swap(&mut self.chunks[i], &mut self.spare);
+        }
+    }
+
+    // Puts a word at an address whose chunk is made.
+    #[tactic(auto, using(crate::proofs::ChunkWords::puts))]
+    fn put_there(&mut self, at: u64, word: u64)
+        requires place { at / 4096 < length self.old.chunks.items }
+        requires there { (c : Vec ℕ Global) → slice_get self.old.chunks.items (at / 4096) ≡ Some c → length c.items ≡ 4096 }
+        ensures words { (a : ℕ) → word_of self.new a ≡ (if a == at then word else word_of self.old a) }
+        ensures len { length self.new.chunks.items ≡ length self.old.chunks.items }
+    {
+        self.chunks[(at / 4096) as usize][(at % 4096) as usize] = word;
+    }
+
+    // Puts a word at an address. It takes no memory.
+    pub fn put(&mut self, at: u64, word: u64)
+        requires place { at / 4096 < length self.old.chunks.items }
+        requires spare { length self.old.spare.items ≡ 4096 }
+        ensures words { (a : ℕ) → word_of self.new a ≡ (if a == at then word else word_of self.old a) }
+        ensures len { length self.new.chunks.items ≡ length self.old.chunks.items }
+    {
+        self.open(at);
+        self.put_there(at, word);
+    }
+}
