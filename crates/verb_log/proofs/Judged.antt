@@ -9,10 +9,10 @@ use Rattle.node_words.proofs.RoleLemmas.{next_in}
 use Rattle.verb_log.specs.declared.entry.Entry.{Entry}
 use Rattle.verb_log.specs.declared.kind.Kind.{Kind}
 use Rattle.verb_log.specs.declared.role.Role.{Role}
-use Rattle.verb_log.specs.declared.role.Role.TheVariants.{Next, Depth, Directory, Birth, Header, Lock, Reserved, Child, Bucket, Slot, Heap}
+use Rattle.verb_log.specs.declared.role.Role.TheVariants.{Next, Child, Slot}
 use Rattle.verb_log.specs.declared.standing.Standing.{Standing}
 use Rattle.verb_log.specs.Decoded.{content}
-use Rattle.verb_log.specs.Tables.{Past, is_among, is_address, or_else, covers, links, linked_by, moves_across, publishes, may_store, judged, table_of, is_taken, is_published, role, judged_role}
+use Rattle.verb_log.specs.Tables.{Past, is_among, is_address, or_else, covers, links, moves_across, publishes, may_store, judged, table_of, is_taken, is_published, role, judged_role}
 use Rattle.verb_log.specs.Kinds.{kind, kind_of_role}
 use Rattle.verb_log.specs.Replay.{kind_of_some, kind_at}
 use Rattle.verb_log.specs.PlainRoles.{plain_role}

@@ -1,7 +1,7 @@
 -- What the index tells, and how it is kept by one more entry.
 use Rattle.std.proofs.Common.{◌≡◌, ℕ, ◌<◌, ◌≤◌, List, [], ◌∷◌, length, reverse, take, get_or, Bool, true, false, cond, ◌||◌, ◌&&◌, suc, Option, Some, None, refl, sym, ap, subst, ◌∙◌, arith}
 use Rattle.std.specs.Prelude.{nat_lt, slice_get, option_map, IfSome}
-use Rattle.std.proofs.lemmas.List.{length-reverse, reverse-reverse, get_or_default}
+use Rattle.std.proofs.lemmas.List.{reverse-reverse, get_or_default}
 use Rattle.std.proofs.lemmas.Option.{get_or_from_slice_get}
 use Rattle.std.proofs.lemmas.Bool.Decides.{nat_tests}
 use Rattle.node_words.specs.declared.geometry.Geometry.{Geometry}

@@ -1,5 +1,5 @@
 -- Which entries of a log linked the table in which an address stands, took the address and published it: the oldest of each.
-use Rattle.std.specs.Prelude.{ℕ, Bool, false, ◌&&◌, cond, List, [], ◌∷◌, length, nat_lt, Option, Some, None}
+use Rattle.std.specs.Prelude.{ℕ, Bool, false, ◌&&◌, cond, [], ◌∷◌, length, nat_lt, Option, Some, None}
 use Rattle.node_words.specs.declared.geometry.Geometry.{Geometry}
 use Rattle.node_words.specs.Addresses.{table_words}
 use Rattle.verb_log.specs.declared.entry.Entry.{Entry}

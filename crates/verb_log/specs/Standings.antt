@@ -1,5 +1,5 @@
 -- What a log says of one address, in one record; and what one entry more says of it.
-use Rattle.std.specs.Prelude.{◌≡◌, ℕ, Bool, ◌+◌, ◌%◌, ◌&&◌, ◌||◌, not, cond, nat_le, nat_lt, ◌==◌, false, Option, Some, None}
+use Rattle.std.specs.Prelude.{◌≡◌, ℕ, Bool, ◌%◌, ◌&&◌, ◌||◌, cond, nat_le, nat_lt, ◌==◌, false, Some, None}
 use Rattle.node_words.specs.declared.geometry.Geometry.{Geometry}
 use Rattle.node_words.specs.Addresses.{node_size, node_of, table_words}
 use Rattle.node_words.specs.Roles.{role_in}

@@ -51,7 +51,10 @@ impl<'a> IndexedLog<'a> {
             (kind self.now.geometry (reverse (take n self.now.entries)) e) }
     {
         let entry = self.entry(n);
-        match self.standing(n, entry.at).judged_role(self.geometry(), entry.at) {
+        match self
+            .standing(n, entry.at)
+            .judged_role(self.geometry(), entry.at)
+        {
             Role::Slot => slot_change(words, &entry),
             _ => None,
         }

@@ -45,7 +45,13 @@ impl Index {
     }
 
     /// What the log of the first `n` entries says of an address.
-    pub(crate) fn standing(&self, geometry: &Geometry, entries: &[Entry], n: u64, at: u64) -> Standing
+    pub(crate) fn standing(
+        &self,
+        geometry: &Geometry,
+        entries: &[Entry],
+        n: u64,
+        at: u64,
+    ) -> Standing
         requires tells { Tells geometry.now (reverse entries.now) self.now }
         requires position { n ≤ length entries.now }
         requires at { at < geometry.now.words }
@@ -74,7 +80,13 @@ impl Index {
     }
 
     /// The table of the oldest link in which an address stands, where one of the first `n` entries made it.
-    fn linked_table_at(&self, geometry: &Geometry, entries: &[Entry], n: u64, at: u64) -> Option<u64>
+    fn linked_table_at(
+        &self,
+        geometry: &Geometry,
+        entries: &[Entry],
+        n: u64,
+        at: u64,
+    ) -> Option<u64>
         requires tells { Tells geometry.now (reverse entries.now) self.now }
         requires position { n ≤ length entries.now }
         requires at { at < geometry.now.words }

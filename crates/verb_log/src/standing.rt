@@ -55,7 +55,13 @@ impl Standing {
     }
 
     /// What is said of an address behind an entry, by what was said of it and of the entry's word.
-    pub(crate) fn after(&self, geometry: &Geometry, entry: &Entry, there: &Standing, at: u64) -> Standing
+    pub(crate) fn after(
+        &self,
+        geometry: &Geometry,
+        entry: &Entry,
+        there: &Standing,
+        at: u64,
+    ) -> Standing
         requires at { entry.now.at < geometry.now.words }
         requires below { IfSome there.now.table (λ table. table ≤ entry.now.at) }
         ensures { result ≡ next_standing geometry.now entry.now there.now self.now at }

@@ -45,7 +45,10 @@ fn play(
     for (n, &(_, _, _, _, kind)) in entries.iter().enumerate() {
         let number = n as u64;
         assert!(rt; number < indexed.len(), "{n} entries");
-        assert!(rt; indexed.kind_of(number) == kind, "the kind of entry {n} by the index");
+        assert!(rt;
+            indexed.kind_of(number) == kind,
+            "the kind of entry {n} by the index"
+        );
     }
     let changes = log.changes(alloc)?;
     assert_eq!(rt; changes.len(), values.len());

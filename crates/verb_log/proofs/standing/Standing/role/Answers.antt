@@ -1,5 +1,4 @@
-use Rattle.std.proofs.Common.{◌≡◌, Some, None, ◌∙◌, sym, ap, Option, ℕ}
-use Rattle.node_words.specs.Roles.{role_in}
+use Rattle.std.proofs.Common.{◌∙◌, sym, ap}
 use Rattle.verb_log.specs.PlainRoles.{plain_role}
 use Rattle.verb_log.proofs.Judged.{role_inside, role_outside}
 use Rattle.verb_log.proofs.standing.Standing.role.Goals as goal
