@@ -1,0 +1,50 @@
+-- The words of a table and of a named block are words of the memory, and those of a named block never change.
+use Rattle.std.specs.Prelude.{◌≡◌, ℕ, zero, suc, ◌+◌, ◌<◌, ◌≤◌, Bool, true, false, cond, nat_le, ◌%◌, ◌^◌, List, length, Some, None, refl}
+use Rattle.std.proofs.Common.{◌∙◌, ap, arith, ⊎_elim}
+use Rattle.std.proofs.lemmas.Bool.Decides.{nat_tests}
+use Rattle.kv_block.specs.Packing.{Pair, packed, unpacked}
+use Rattle.kv_block.proofs.Packed.{packed_most, IsPair-from_unpacked, packed_of_unpacked}
+use Rattle.node_words.specs.declared.geometry.Geometry.{Geometry}
+use Rattle.node_words.specs.Addresses.{node_of, node_at, table_words, first_free}
+use Rattle.node_words.proofs.Sizes.{node_ends}
+use Rattle.node_words.proofs.FirstTables.{IsInFirst, first_in_words}
+use Rattle.verb_log.specs.Decoded.{Body}
+use Rattle.verb_log.proofs.BlockWords.{length-words_at, pair_unpacked}
+use Rattle.verb_log.specs.Tables.{Past, Before, here, later, word_at, words_at, pair_at}
+use Rattle.race_laws.specs.Standing.{IsTable}
+use Rattle.race_laws.proofs.Regions.{base_low}
+use Rattle.race_laws.proofs.Sound.{Sound}
+
+-- a taken word is one of the memory's
+pub taken_within : (g : Geometry) (q : Past) → Sound g q → (a k : ℕ) → k ≡ node_of g a → k < g.nodes → a < word_at g q (node_at g k) → a < g.words
+taken_within g q so a k e h to = let x = so.next_to k h in let y = node_ends g k h in omega arith
+
+pub table_within : (g : Geometry) (q : Past) → Sound g q → (t o : ℕ) → IsTable g q t → o < table_words g → t + o < g.words
+table_within g q so t o h k =
+    let inside = so.whole t t h (t + o) (omega arith) (omega arith) in
+    let x = so.tables (t + o) t inside in
+    ⊎_elim (λ (y : IsInFirst g (t + o) t). let z = (first_in_words g (t + o) t y).1 in omega arith)
+    (λ y. let tk = so.taken (t + o) (so.published (t + o) y) in taken_within g q so (t + o) (node_of g (t + o)) refl tk.node tk.to) x.2
+
+-- a table by its address: a first table
+pub low_is_first : (g : Geometry) (q : Past) → Sound g q → (t : ℕ) → IsTable g q t → t < first_free g → IsInFirst g t t
+low_is_first g q so t h low = ⊎_elim (λ (y : IsInFirst g t t). y)
+    (λ y. let tk = so.taken t (so.published t y) in let f = tk.from in let b = base_low g (node_of g t) in absurd (omega arith)) (so.tables t t h).2
+
+-- a block has at most so many words
+pub block_length : (g : Geometry) (q : Past) (b : Body) (pr : Pair) → pair_at g q b ≡ Some pr → b.length ≤ 137
+block_length g q b pr h =
+    let u = pair_unpacked g q b pr h in
+    let m = packed_most pr (IsPair-from_unpacked (words_at g q b.at b.length) pr u) in
+    let e : length (packed pr.key pr.value) ≡ b.length = ap (λ (v : List ℕ). length v) (packed_of_unpacked (words_at g q b.at b.length) pr u) ∙ length-words_at g q b.at b.length in
+    omega arith
+
+-- a table's address has at most 24 bits
+pub table_small : (g : Geometry) (q : Past) → Sound g q → (t : ℕ) → IsTable g q t → t < 2 ^ 46
+table_small g q so t h =
+    let low = table_within g q so t 0 h (some_words g) in
+    let few = g.within in
+    omega arith
+  where
+    some_words : (g : Geometry) → 0 < table_words g
+    some_words g = omega arith

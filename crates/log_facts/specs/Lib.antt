@@ -1,0 +1,4 @@
+pub mod Start
+pub mod Since
+pub mod Beside
+pub mod Among

@@ -1,0 +1,11 @@
+pub mod ListPass
+pub mod ListEnd
+pub mod Bridge
+pub mod Rules
+pub mod Blocks
+pub mod TableAddress
+pub mod Seen
+pub mod Judging
+pub mod Scanning
+pub mod Searching
+pub mod Whole

@@ -1,0 +1,2 @@
+//! Facts of legal logs.
+#![tactic(auto)]
