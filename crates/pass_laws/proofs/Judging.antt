@@ -40,7 +40,7 @@ use Rattle.log_facts.specs.Since.{change_in}
 use Rattle.pass_laws.specs.SafeIn.{Calmly, MayBy, SafeIn}
 use Rattle.pass_laws.proofs.ListPass.{Aim, Mode, look, sweep, walk, Seen, held, Ended, answers, own_of, judge_pending, judge_mark, judge_content, judge}
 use Rattle.log_facts.specs.Start.{Start}
-use Rattle.pass_laws.proofs.ListEnd.{IsSweep, PassEnd}
+use Rattle.pass_laws.proofs.ListEnd.{Reads, IsSweep, PassEnd}
 use Rattle.log_facts.proofs.Mild.{slot_mild}
 use Rattle.race_laws.proofs.Sound.{judged_is}
 use Rattle.kv_block.specs.Bytes.{AreBytes}
@@ -150,7 +150,7 @@ module _ (s : Setting) (c : ℕ) (q : Past) (l : Legal s q) (t p : ℕ) (h : IsT
       e = change_in s.geometry c q (slot_at t p) 0
 
 -- one candidate of one table
-module _ (s : Setting) (c : ℕ) (key : List ℕ) (bytes : AreBytes key) (mode : Mode) (from : Past) (prev : Option Searched) (shown : Option Seen) (t : ℕ) (since : Past) (ps : PrevSaw s.geometry prev shown) (pass : Passing InOrder s key (own_of mode) from prev t since) (p : ℕ) (cand : IsIn p (places s key)) (base : Past) (bs : Before since base) where
+module _ (s : Setting) (c : ℕ) (key : List ℕ) (bytes : AreBytes key) (mode : Mode) (reads : Reads mode) (from : Past) (prev : Option Searched) (shown : Option Seen) (t : ℕ) (since : Past) (ps : PrevSaw s.geometry prev shown) (pass : Passing InOrder s key (own_of mode) from prev t since) (p : ℕ) (cand : IsIn p (places s key)) (base : Past) (bs : Before since base) where
   abbrev End : Past → Ended → Type 0
   End q e = PassEnd s key mode from q e
 
@@ -185,6 +185,7 @@ module _ (s : Setting) (c : ℕ) (key : List ℕ) (bytes : AreBytes key) (mode :
         at = r;
         from_then = Before-trans (passing_span InOrder in_order_span s key (own_of mode) from prev t since pass) (Before-trans bs br);
         till = Before-trans rq bz;
+        reads = reads;
         body = b;
         pair = pr;
         holder = ho;
@@ -328,7 +329,7 @@ module _ (s : Setting) (c : ℕ) (key : List ℕ) (bytes : AreBytes key) (mode :
 
   -- a word judged, and those that lost drops found
   pub judge_safe : (left word : ℕ) (r q : Past) → Before base r → Before r q → Legal s q → word_at s.geometry r (slot_at t p) ≡ word → Start0 q → (1 ≤ left) ⊎ IsSweep mode → (next : ℕ → ℕ → Prog Ended) → Next next → SafeIn s c q (judge s.geometry (aim_of s key) mode shown t p left word next) End
-  judge_safe zero word r q br rq l wd st0 some next nx = record { start = st0; so = ⊎_elim (λ (h : 1 ≤ 0). absurd (omega arith)) (λ (h : IsSweep mode). h) some; some = tt }
+  judge_safe zero word r q br rq l wd st0 some next nx = record { start = st0; so = ⊎_elim (λ (h : 1 ≤ 0). absurd (omega arith)) (λ (h : IsSweep mode). h) some; some = refl }
   judge_safe (suc left) word r q br rq l wd st0 some next nx =
       content_safe left word r q br rq l wd st0 next nx (λ found. judge s.geometry (aim_of s key) mode shown t p left found next)
       (λ sw r2 q2 found b2 rq2 l2 wd2 st2. judge_safe left found r2 q2 b2 rq2 l2 wd2 st2 (inr sw) next nx) (content word) refl

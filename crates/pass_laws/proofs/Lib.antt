@@ -8,4 +8,6 @@ pub mod Seen
 pub mod Judging
 pub mod Scanning
 pub mod Searching
+pub mod Sim
+pub mod SamePass
 pub mod Whole

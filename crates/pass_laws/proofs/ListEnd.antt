@@ -1,9 +1,9 @@
 -- What the end of the pass over lists says of the log.
-use Rattle.std.specs.Prelude.{◌≡◌, ℕ, ◌≤◌, List, [], ◌∷◌, Option, Some, None}
+use Rattle.std.specs.Prelude.{◌≡◌, ◌≢◌, ℕ, ◌≤◌, List, [], ◌∷◌, Option, Some, None}
 use Rattle.kv_block.specs.Packing.{Pair}
 use Rattle.node_words.specs.declared.geometry.Geometry.{Geometry}
 use Rattle.node_words.specs.Addresses.{slot_at}
-use Rattle.verb_log.specs.Decoded.{Body, Header}
+use Rattle.verb_log.specs.Decoded.{Body, Header, NoHeader}
 use Rattle.verb_log.specs.Tables.{Past, Before, word_at}
 use Rattle.race_laws.specs.Setting.{Setting, hash}
 use Rattle.race_laws.specs.Standing.{key_header, IsGone, Exits, Stays}
@@ -21,11 +21,18 @@ Saw g t [] (x ∷ xs) = ⊥
 Saw g t (r ∷ rs) [] = ⊥
 Saw g t (r ∷ rs) (x ∷ xs) = (r.place ≡ x.place) × (word_at g r.at (slot_at t r.place) ≡ x.word) × Saw g t rs xs
 
+-- a mode in which candidates are read
+abbrev pub Reads : Mode → Type 0
+Reads look = Unit {0}
+Reads (sweep t p) = Unit {0}
+Reads walk = ⊥
+
 -- the word at this place held the key, at a position of the pass
-pub record HeldAt (s : Setting) (key : List ℕ) (from q : Past) (t p word : ℕ) (value : List ℕ) : Type 0 where
+pub record HeldAt (s : Setting) (key : List ℕ) (mode : Mode) (from q : Past) (t p word : ℕ) (value : List ℕ) : Type 0 where
   pub at : Past
   pub from_then : Before from at
   pub till : Before at q
+  pub reads : Reads mode
   pub body : Body
   pub pair : Pair
   pub holder : Holder s at key t p body pair
@@ -43,6 +50,7 @@ pub record ClearAt (s : Setting) (key : List ℕ) (own : Option ℕ) (from q : P
   pub parent_is : searched_before passed.prev ≡ parent
   pub saw : Saw s.geometry t passed.seen shown
   pub last : key_header s passed.end t key ≡ h
+  pub valid : h ≢ NoHeader
 
 -- the last header was read at a position of the pass, and by it the key stays
 pub record HeaderAt (s : Setting) (key : List ℕ) (from q : Past) (t : ℕ) (h : Header) : Type 0 where
@@ -52,6 +60,7 @@ pub record HeaderAt (s : Setting) (key : List ℕ) (from q : Past) (t : ℕ) (h 
   pub start : Start s.geometry at (hash s key) t
   pub last : key_header s at t key ≡ h
   pub stays : Stays s at t key h
+  pub valid : h ≢ NoHeader
 
 abbrev pub IsSweep : Mode → Type 0
 IsSweep look = ⊥
@@ -64,7 +73,7 @@ IsOwn (sweep u p) t = t ≡ u
 IsOwn walk t = ⊥
 
 -- in the table of the own slot the key's header was read as leaving or left, at a position of the pass
-pub record GoneAt (s : Setting) (key : List ℕ) (mode : Mode) (from q : Past) (t : ℕ) : Type 0 where
+pub record GoneAt (s : Setting) (key : List ℕ) (mode : Mode) (from q : Past) (t : ℕ) (h : Header) : Type 0 where
   pub sweeps : IsSweep mode
   pub own : IsOwn mode t
   pub at : Past
@@ -73,6 +82,8 @@ pub record GoneAt (s : Setting) (key : List ℕ) (mode : Mode) (from q : Past) (
   pub level : ℕ
   pub exits : Exits s at t key level
   pub gone : IsGone (key_header s at t key) level
+  pub last : key_header s at t key ≡ h
+  pub valid : h ≢ NoHeader
 
 abbrev pub ClearsSo : Setting → List ℕ → Mode → Past → Past → ℕ → Option ℕ → List Shown → Header → Type 0
 ClearsSo s key look from q t parent shown h = ClearAt s key None from q t parent shown h
@@ -80,30 +91,20 @@ ClearsSo s key (sweep u p) from q t parent shown h = ClearAt s key (Some (slot_a
 ClearsSo s key walk from q t parent shown h = HeaderAt s key from q t h
 
 abbrev pub EndsSo : Setting → List ℕ → Mode → Past → Past → ℕ → How → Type 0
-EndsSo s key mode from q t (held p word value) = HeldAt s key from q t p word value
+EndsSo s key mode from q t (held p word value) = HeldAt s key mode from q t p word value
 EndsSo s key mode from q t (clear parent shown h) = ClearsSo s key mode from q t parent shown h
-EndsSo s key mode from q t gone = GoneAt s key mode from q t
+EndsSo s key mode from q t (gone h) = GoneAt s key mode from q t h
 EndsSo s key mode from q t spent = IsSweep mode
 
 -- some swaps may still be lost, unless they are spent
 abbrev pub HasLeft : How → ℕ → Type 0
-HasLeft spent left = Unit {0}
+HasLeft spent left = left ≡ 0
 HasLeft (held p word value) left = 1 ≤ left
 HasLeft (clear parent shown h) left = 1 ≤ left
-HasLeft gone left = 1 ≤ left
+HasLeft (gone h) left = 1 ≤ left
 
 -- the table where it ended may be cached, and so it ended
 pub record PassEnd (s : Setting) (key : List ℕ) (mode : Mode) (from q : Past) (e : Ended) : Type 0 where
   pub start : Start s.geometry q (hash s key) e.table
   pub so : EndsSo s key mode from q e.table e.how
   pub some : HasLeft e.how e.left
-
--- where a pass may begin: at a cached table, or through the directory; a sweep begins at the table of its own slot, which is on
--- the chain
-abbrev pub MayBegin : Setting → List ℕ → Mode → Past → Option ℕ → Type 0
-MayBegin s key look q None = Unit {0}
-MayBegin s key look q (Some t) = Start s.geometry q (hash s key) t
-MayBegin s key walk q None = Unit {0}
-MayBegin s key walk q (Some t) = Start s.geometry q (hash s key) t
-MayBegin s key (sweep u p) q None = ⊥
-MayBegin s key (sweep u p) q (Some t) = (t ≡ u) × OnChain s.geometry q (hash s key) u × IsPlace s.geometry p

@@ -43,7 +43,7 @@ pub record Seen : Type 0 where
 pub data How : Type 0 where
   held : ℕ → ℕ → List ℕ → How
   clear : Option ℕ → List Shown → Header → How
-  gone : How
+  gone : Header → How
   spent : How
 
 -- where it ends, and how many swaps may still be lost
@@ -142,7 +142,7 @@ module _ (g : Geometry) (aim : Aim) (mode : Mode) where
   abbrev pub by_header : Option Seen → ℕ → List Shown → ℕ → Header → Option ℕ → (ℕ → ℕ → Prog Ended) → Prog Ended
   by_header before t seen left h None below = ret (record { table = t; how = clear (table_before before) seen h; left = left })
   by_header before t seen left h (Some i) below =
-      cond (has_own g mode t) (ret (record { table = t; how = gone; left = left })) (ask (do_verb None (Read (child_at t i))) (λ child. below (address_of child) (i + 1)))
+      cond (has_own g mode t) (ret (record { table = t; how = gone h; left = left })) (ask (do_verb None (Read (child_at t i))) (λ child. below (address_of child) (i + 1)))
 
   -- a table with this birth depth is searched, and at most n - 1 after it
   abbrev pub search_table : ℕ → Option Seen → ℕ → ℕ → ℕ → Prog Ended
@@ -164,11 +164,3 @@ module _ (g : Geometry) (aim : Aim) (mode : Mode) where
   by_start t left (PlainAt d) = search_from t left
   by_start t left (SplittingAt d) = search_from t left
   by_start t left NoHeader = search_from t left
-
-  abbrev pub from_table : ℕ → ℕ → Prog Ended
-  from_table t left = ask (do_verb None (Read (header_at t))) (λ word. by_start t left (header word))
-
-  -- a pass, from the cached table or from the directory; so many swaps may be lost
-  abbrev pub pass : Option ℕ → ℕ → Prog Ended
-  pass (Some t) left = from_table (address_of t) left
-  pass None left = ask (do_verb None (Read 1)) (λ depth. ask (do_verb None (Read (directory_at (aim.hash % 2 ^ min depth g.max_depth)))) (λ t. from_table (address_of t) left))

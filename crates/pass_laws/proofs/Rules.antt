@@ -32,7 +32,7 @@ module _ (R : Rule) (s : Setting) (c : ℕ) where
   by_map T w q (Write at new) P Q f h = ((h.0.0, w q (change_in s.geometry c q at new) h.0.1), f _ 0 h.1)
   by_map T w q (Swap at old new) P Q f h = ((λ e. let x = h.0 e in ((x.0.0, w q (change_in s.geometry c q at new) x.0.1), f _ _ x.1)), (λ n. f q (word_at s.geometry q at) (h.1 n)))
 
-  by_do_map : (T : Rule) → ((q : Past) (e : Entry) → R s c q e → T s c q e) → (q : Past) (block : Option ℕ) (verb : Verb) (P Q : Past → ℕ → Type 0) → ((n : Past) (answer : ℕ) → P n answer → Q n answer) → MayDoBy R s c q block verb P → MayDoBy T s c q block verb Q
+  pub by_do_map : (T : Rule) → ((q : Past) (e : Entry) → R s c q e → T s c q e) → (q : Past) (block : Option ℕ) (verb : Verb) (P Q : Past → ℕ → Type 0) → ((n : Past) (answer : ℕ) → P n answer → Q n answer) → MayDoBy R s c q block verb P → MayDoBy T s c q block verb Q
   by_do_map T w q None verb P Q f h = by_map T w q verb P Q f h
   by_do_map T w q (Some block) verb P Q f h = (h.0, by_map T w q verb P Q f h.1)
 

@@ -15,13 +15,13 @@ use Rattle.race_laws.proofs.Presence.{candidate_place}
 use Rattle.pass_laws.specs.SafeIn.{SafeIn}
 use Rattle.pass_laws.proofs.ListPass.{Mode, Shown, Seen, Ended, own_of, scan}
 use Rattle.log_facts.specs.Start.{Start}
-use Rattle.pass_laws.proofs.ListEnd.{Saw, PassEnd}
+use Rattle.pass_laws.proofs.ListEnd.{Reads, Saw, PassEnd}
 use Rattle.log_facts.proofs.Growing.{since_before}
 use Rattle.log_facts.proofs.Starts.{start_table, start_before}
 use Rattle.pass_laws.proofs.Seen.{saw_push, in_order_push, all_miss_push, places_push, PrevSaw}
 use Rattle.pass_laws.proofs.Judging.{aim_of, slot_within, judge_safe}
 
-module _ (s : Setting) (c : ℕ) (key : List ℕ) (bytes : AreBytes key) (mode : Mode) (from : Past) (prev : Option Searched) (shown : Option Seen) (t : ℕ) (since : Past) (ps : PrevSaw s.geometry prev shown) (pass : Passing InOrder s key (own_of mode) from prev t since) (st : Start s.geometry since (hash s key) t) where
+module _ (s : Setting) (c : ℕ) (key : List ℕ) (bytes : AreBytes key) (mode : Mode) (reads : Reads mode) (from : Past) (prev : Option Searched) (shown : Option Seen) (t : ℕ) (since : Past) (ps : PrevSaw s.geometry prev shown) (pass : Passing InOrder s key (own_of mode) from prev t since) (st : Start s.geometry since (hash s key) t) where
   -- what follows a whole table that misses is safe
   abbrev pub After : List ℕ → (List Shown → ℕ → Prog Ended) → Type 0
   After whole next =
@@ -36,7 +36,7 @@ module _ (s : Setting) (c : ℕ) (key : List ℕ) (bytes : AreBytes key) (mode :
         slot_within s q l t p (start_table s q l (hash s key) t (start_before s (Before-trans bs bq) l (hash s key) t st)) (candidate_place s key p cp),
         λ z lz sz.
             let bz = Before-trans bq (since_before sz) in
-            judge_safe s c key bytes mode from prev shown t since ps pass p cp base bs left (word_at s.geometry z (slot_at t p)) z z bz here lz refl
+            judge_safe s c key bytes mode reads from prev shown t since ps pass p cp base bs left (word_at s.geometry z (slot_at t p)) z z bz here lz refl
             (start_before s (Before-trans bs bz) lz (hash s key) t st) (inl lv)
             (λ word left2. scan s.geometry (aim_of s key) mode shown t some (words ++ record { place = p; word = word } ∷ []) left2 next)
             (λ r q2 word left2 br rq l2 wd m lv2.

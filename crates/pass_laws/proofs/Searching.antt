@@ -32,14 +32,14 @@ use Rattle.race_laws.proofs.Opening.{splits}
 use Rattle.race_laws.proofs.Chain.{born_at, born_before, chain_table, chain_before, chain_same, way_down}
 use Rattle.race_laws.proofs.Passes.{in_order_span, passing_span, key_gone}
 use Rattle.pass_laws.specs.SafeIn.{Calmly, SafeIn}
-use Rattle.pass_laws.proofs.ListPass.{Mode, look, sweep, walk, Shown, Seen, table_before as text_before, clear, gone, Ended, own_of, has_own, shows_gone, exit_by, places_for, by_header, search_table, search_from, by_start, from_table}
+use Rattle.pass_laws.proofs.ListPass.{Mode, look, sweep, walk, Shown, Seen, table_before as text_before, clear, gone, Ended, own_of, has_own, shows_gone, exit_by, places_for, by_header, search_table, search_from, by_start}
 use Rattle.pass_text.specs.Words.{address_of}
 use Rattle.log_facts.specs.Start.{Start, on_chain, below}
-use Rattle.pass_laws.proofs.ListEnd.{Saw, ClearAt, IsSweep, IsOwn, ClearsSo, PassEnd}
+use Rattle.pass_laws.proofs.ListEnd.{Reads, Saw, ClearAt, IsSweep, IsOwn, ClearsSo, PassEnd}
 use Rattle.log_facts.proofs.Growing.{since_before}
 use Rattle.log_facts.proofs.Within.{table_within}
 use Rattle.pass_laws.proofs.TableAddress.{table_address}
-use Rattle.log_facts.proofs.Heads.{gone_child}
+use Rattle.log_facts.proofs.Heads.{gone_child, bucket_valid}
 use Rattle.log_facts.proofs.Starts.{start_table, start_before, start_ripe, start_on, Above, start_above, low_born}
 use Rattle.pass_laws.proofs.Seen.{in_order_to, PrevSaw, before_same_table}
 use Rattle.pass_laws.proofs.Rules.{by_cond}
@@ -237,6 +237,7 @@ module _ (s : Setting) (key : List ℕ) (q : Past) (l : Legal s q) where
 
 -- a mode that reads candidates
 pub record Scans (s : Setting) (key : List ℕ) (mode : Mode) (from : Past) : Type 0 where
+  pub candidates : Reads mode
   pub reads : (t : ℕ) → places_for s.geometry (hash s key) mode t ≡ read_places s key (own_of mode) t
   pub clears : (q : Past) (t : ℕ) (parent : Option ℕ) (shown : List Shown) (h : Header) → ClearAt s key (own_of mode) from q t parent shown h → ClearsSo s key mode from q t parent shown h
   pub own_sweeps : (t : ℕ) → has_own s.geometry mode t ≡ true → IsSweep mode
@@ -271,6 +272,7 @@ module _ (s : Setting) (c : ℕ) (key : List ℕ) (bytes : AreBytes key) (mode :
         parent_is = before_same_table s.geometry prev shown ps;
         saw = saw;
         last = refl;
+        valid = bucket_valid s end l t (main_of s key) table2 (main_below s key);
       });
       some = lv;
     }
@@ -286,7 +288,7 @@ module _ (s : Setting) (c : ℕ) (key : List ℕ) (bytes : AreBytes key) (mode :
         let some = gone_child s end l t (main_of s key) i table2 (main_below s key) e16 low x.1 in
         let chain = start_on s end l (hash s key) t i st2 e16 some in
         let born = (splits s end l).born t i (child_in s.geometry end t i) table2 e16 refl some in
-        by_cond Calmly s c End end (has_own s.geometry mode t) (ret (record { table = t; how = gone; left = left })) (ask (do_verb None (Read (child_at t i))) (λ child. go_on (address_of child) (i + 1)))
+        by_cond Calmly s c End end (has_own s.geometry mode t) (ret (record { table = t; how = gone (key_header s end t key); left = left })) (ask (do_verb None (Read (child_at t i))) (λ child. go_on (address_of child) (i + 1)))
         (λ own. record {
           start = st2;
           so = record {
@@ -298,6 +300,8 @@ module _ (s : Setting) (c : ℕ) (key : List ℕ) (bytes : AreBytes key) (mode :
             level = i;
             exits = x.0;
             gone = x.1;
+            last = refl;
+            valid = bucket_valid s end l t (main_of s key) table2 (main_below s key);
           };
           some = lv;
         })
@@ -324,7 +328,7 @@ module _ (s : Setting) (c : ℕ) (key : List ℕ) (bytes : AreBytes key) (mode :
   search_safe (suc n) prev shown t b left since q pass bf l st ah be fuel ps lv =
       let ls = legal_before s bf l in
       let tb = start_table s since ls (hash s key) t st in
-      scan_safe s c key bytes mode from prev shown t since ps pass st (places_for s.geometry (hash s key) mode t) (read_places s key (own_of mode) t)
+      scan_safe s c key bytes mode sc.candidates from prev shown t since ps pass st (places_for s.geometry (hash s key) mode t) (read_places s key (own_of mode) t)
       (λ p h. filter_in (is_other (own_of mode) t) (places s key) p (subst (IsIn p) (sc.reads t) h)) [] [] since q left here bf l tt tt (sc.reads t) lv _
       (λ seen words base y left2 io by ly saw miss whole lv2.
       let bsy = Before-trans (in_order_span since seen base io) by in (
@@ -373,7 +377,7 @@ module _ (s : Setting) (c : ℕ) (key : List ℕ) (from : Past) where
       by : (end : Past) → Legal s end → Before since end → Start s.geometry end (hash s key) t → born_at s.geometry end t ≡ born_at s.geometry since t → (o : Option ℕ) → exit_by (key_header s end t key) (exit_level (hash s key) (born_at s.geometry end t)) ≡ o
           → ((ch born2 : ℕ) (z : Past) → Before end z → Legal s z → Start s.geometry end (hash s key) ch → born2 ≡ born_at s.geometry end ch → b + 1 ≤ born2 → SafeIn s c z (search_table s.geometry (aim_of s key) walk n (Some (record { table = t; shown = [] })) ch born2 left) WalkEnd)
           → SafeIn s c end (by_header s.geometry (aim_of s key) walk shown t [] left (key_header s end t key) o (λ child born2. search_table s.geometry (aim_of s key) walk n (Some (record { table = t; shown = [] })) child born2 left)) WalkEnd
-      by end le span st2 bb None e f = record { start = st2; so = record { at = end; from_then = Before-trans bf span; till = here; start = st2; last = refl; stays = λ i ex g. exit_none (key_header s end t key) (exit_level (hash s key) (born_at s.geometry end t)) e i ex g }; some = lv }
+      by end le span st2 bb None e f = record { start = st2; so = record { at = end; from_then = Before-trans bf span; till = here; start = st2; last = refl; valid = bucket_valid s end le t (main_of s key) (start_table s end le (hash s key) t st2) (main_below s key); stays = λ i ex g. exit_none (key_header s end t key) (exit_level (hash s key) (born_at s.geometry end t)) e i ex g }; some = lv }
       by end le span st2 bb (Some i) e f =
           let tb2 = start_table s end le (hash s key) t st2 in
           let x = exit_some (key_header s end t key) (exit_level (hash s key) (born_at s.geometry end t)) i e in
@@ -440,12 +444,12 @@ module _ (s : Setting) (c : ℕ) (key : List ℕ) (mode : Mode) (from : Past) (s
       let low = (exit-some (hash s key) (born_at s.geometry q (birth_in s.geometry q t).parent) ab.level ab.exits).from in
       (ab.chain, o.1, subst (λ v. born_at s.geometry q (birth_in s.geometry q t).parent ≤ born_at s.geometry q v) o.0 (let x = born.level in omega arith), o.2)
 
-  own_before : (md : Mode) {p q : Past} → Before p q → Legal s q → (t : ℕ) → Own md p t → Own md q t
+  pub own_before : (md : Mode) {p q : Past} → Before p q → Legal s q → (t : ℕ) → Own md p t → Own md q t
   own_before look b l t o = tt
   own_before walk b l t o = tt
   own_before (sweep u r) b l t o = (o.0, chain_before s b l (hash s key) u o.1, o.2)
 
-  by_start_safe : (t left : ℕ) (q : Past) → Before from q → Legal s q → Start s.geometry q (hash s key) t → Own mode q t → 1 ≤ left → (h : Header) → header_in s.geometry q t ≡ h → SafeIn s c q (by_start s.geometry (aim_of s key) mode t left h) Ends
+  pub by_start_safe : (t left : ℕ) (q : Past) → Before from q → Legal s q → Start s.geometry q (hash s key) t → Own mode q t → 1 ≤ left → (h : Header) → header_in s.geometry q t ≡ h → SafeIn s c q (by_start s.geometry (aim_of s key) mode t left h) Ends
   by_start_safe t left q bf l st o lv (PlainAt d) e = search_from_safe t left q bf l (start_ripe s q l (hash s key) t st (λ f. subst IsFilling e f)) (λ f. subst IsFilling e f) (own_here mode q t o) lv
   by_start_safe t left q bf l st o lv (SplittingAt d) e = search_from_safe t left q bf l (start_ripe s q l (hash s key) t st (λ f. subst IsFilling e f)) (λ f. subst IsFilling e f) (own_here mode q t o) lv
   by_start_safe t left q bf l st o lv NoHeader e = search_from_safe t left q bf l (start_ripe s q l (hash s key) t st (λ f. subst IsFilling e f)) (λ f. subst IsFilling e f) (own_here mode q t o) lv
@@ -462,24 +466,15 @@ module _ (s : Setting) (c : ℕ) (key : List ℕ) (mode : Mode) (from : Past) (s
             (ripe_before s bz lz (birth_in s.geometry q t).parent tp ab.ripe) (ahead_before s key mode bz lz (birth_in s.geometry q t).parent (own_above mode q l t o ab)) lv),
       )
 
-  -- from a table where the pass may begin
-  pub from_table_safe : (t left : ℕ) (q : Past) → Before from q → Legal s q → Start s.geometry q (hash s key) t → Own mode q t → 1 ≤ left → SafeIn s c q (from_table s.geometry (aim_of s key) mode t left) Ends
-  from_table_safe t left q bf l st o lv = (
-    header_low s q l t (start_table s q l (hash s key) t st),
-    λ z lz sz.
-        let bz = since_before sz in
-        by_start_safe t left z (Before-trans bf bz) lz (start_before s bz lz (hash s key) t st) (own_before mode bz lz t o) lv (header_in s.geometry z t) refl,
-  )
-
 -- the three modes
 pub look_scans : (s : Setting) (key : List ℕ) (from : Past) → Scans s key look from
-look_scans s key from = record { reads = λ t. refl; clears = λ q t parent shown h x. x; own_sweeps = λ t e. never e }
+look_scans s key from = record { candidates = tt; reads = λ t. refl; clears = λ q t parent shown h x. x; own_sweeps = λ t e. never e }
   where
     never : false ≡ true → ⊥
     never e = cc
 
 pub sweep_scans : (s : Setting) (key : List ℕ) (u p : ℕ) (from : Past) → Scans s key (sweep u p) from
-sweep_scans s key u p from = record { reads = λ t. refl; clears = λ q t parent shown h x. x; own_sweeps = λ t e. tt }
+sweep_scans s key u p from = record { candidates = tt; reads = λ t. refl; clears = λ q t parent shown h x. x; own_sweeps = λ t e. tt }
 
 pub all_searches : (s : Setting) (c : ℕ) (key : List ℕ) → AreBytes key → (mode : Mode) (from : Past) → Searches s c key mode from
 all_searches s c key bytes look from = searches s c key bytes look from (look_scans s key from)

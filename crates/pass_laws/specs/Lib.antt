@@ -1,1 +1,3 @@
 pub mod SafeIn
+pub mod HasPassed
+pub mod Law
