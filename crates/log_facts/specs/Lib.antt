@@ -2,3 +2,6 @@ pub mod Start
 pub mod Since
 pub mod Beside
 pub mod Among
+pub mod StartLaws
+pub mod Mine
+pub mod Reached

@@ -7,9 +7,7 @@ use Rattle.slot_word.specs.declared.births.Birth.{Birth}
 use Rattle.kv_block.specs.Bytes.{AreBytes}
 use Rattle.bucket_group.specs.ExitLevel.{exit_level}
 use Rattle.bucket_group.proofs.ExitLaws.{exit-some, exit-below}
-use Rattle.bucket_group.proofs.CandidateLaws.{first_below}
 use Rattle.node_words.specs.Addresses.{table_words, first_free, birth_at, header_at, child_at, slot_at, bucket_header_at}
-use Rattle.node_words.proofs.Sizes.{some_groups}
 use Rattle.verb_log.specs.declared.entry.Verb.TheVariants.{Read}
 use Rattle.verb_log.specs.Decoded.{Header, PlainAt, SplittingAt, FillingAt, NoHeader}
 use Rattle.verb_log.specs.Tables.{Past, Before, here, word_at, table_of}
@@ -39,6 +37,7 @@ use Rattle.pass_laws.proofs.ListEnd.{Reads, Saw, ClearAt, IsSweep, IsOwn, Clears
 use Rattle.log_facts.proofs.Growing.{since_before}
 use Rattle.log_facts.proofs.Within.{table_within}
 use Rattle.pass_laws.proofs.TableAddress.{table_address}
+use Rattle.log_facts.proofs.Keys.{main_below}
 use Rattle.log_facts.proofs.Heads.{gone_child, bucket_valid}
 use Rattle.log_facts.proofs.Starts.{start_table, start_before, start_ripe, start_on, Above, start_above, low_born}
 use Rattle.pass_laws.proofs.Seen.{in_order_to, PrevSaw, before_same_table}
@@ -136,12 +135,6 @@ module _ (s : Setting) (q : Past) (l : Legal s q) (t : ℕ) (h : IsTable s.geome
 
       small : (o : ℕ) → o < 20 → o < table_words s.geometry
       small o k = omega arith
-
-positive : (n : ℕ) → 1 ≤ n → 0 < n
-positive n h = omega arith
-
-pub main_below : (s : Setting) (key : List ℕ) → main_of s key < 2 * s.geometry.groups
-main_below s key = first_below s.geometry.groups (hash s key) (positive s.geometry.groups (some_groups s.geometry))
 
 -- a sweep has not gone past the table of the own slot
 abbrev pub Ahead : Setting → List ℕ → Mode → Past → ℕ → Type 0

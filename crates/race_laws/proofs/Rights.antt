@@ -83,7 +83,7 @@ module _ (s : Setting) (q : Past) (e : Entry) (l : Legal s (e ∷ q)) (t : ℕ) 
   child_quiet z i k = ⊎_elim (λ (x : child_in s.geometry (e ∷ q) t i ≡ child_in s.geometry q t i). x) (λ x. absurd (locked_by z e.client x.4.locked)) (child_cases s q e l.1 so t h i k)
 
   -- a quiet table of which an entry leaves the header, the bucket headers and the child words stays quiet
-  quiet_by : header_in s.geometry (e ∷ q) t ≡ header_in s.geometry q t → ((m : ℕ) → m < 2 * s.geometry.groups → bucket_in s.geometry (e ∷ q) t m ≡ bucket_in s.geometry q t m) → ((i : ℕ) → i < 16 → child_in s.geometry (e ∷ q) t i ≡ child_in s.geometry q t i) → IsQuiet s.geometry q t → IsQuiet s.geometry (e ∷ q) t
+  pub quiet_by : header_in s.geometry (e ∷ q) t ≡ header_in s.geometry q t → ((m : ℕ) → m < 2 * s.geometry.groups → bucket_in s.geometry (e ∷ q) t m ≡ bucket_in s.geometry q t m) → ((i : ℕ) → i < 16 → child_in s.geometry (e ∷ q) t i ≡ child_in s.geometry q t i) → IsQuiet s.geometry q t → IsQuiet s.geometry (e ∷ q) t
   quiet_by hq bq cq w =
       let dq = ap depth hq in
       record {
