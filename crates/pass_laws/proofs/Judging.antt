@@ -12,7 +12,8 @@ use Rattle.verb_log.specs.declared.entry.Entry.{Entry}
 use Rattle.verb_log.specs.declared.entry.Verb.TheVariants.{Swap}
 use Rattle.verb_log.specs.Decoded.{Body, Content, Empty, Full, NoSlot, content}
 use Rattle.verb_log.specs.Tables.{Past, Before, here, later, word_at, pair_at}
-use Rattle.verb_log.specs.Kinds.{kind_of_role, slot_kind}
+use Rattle.verb_log.specs.declared.kind.Kind.TheVariants.{Drop}
+use Rattle.verb_log.specs.Kinds.{kind, kind_of_role, slot_kind}
 use Rattle.verb_log.proofs.Positions.{Before-trans}
 use Rattle.verbs.specs.Programs.{do_verb, Prog, ret, ask}
 use Rattle.race_laws.specs.Setting.{Setting, hash, places, print_of}
@@ -35,13 +36,11 @@ use Rattle.race_laws.proofs.Candidates.{word_candidate}
 use Rattle.race_laws.proofs.Homes.{parent_of}
 use Rattle.race_laws.proofs.Presence.{candidate_place, copy_present}
 use Rattle.bucket_group.proofs.ExitLaws.{exit-below}
-use Rattle.verb_log.specs.Changes.{changes_by}
 use Rattle.log_facts.specs.Since.{change_in}
-use Rattle.pass_laws.specs.SafeIn.{Calmly, MayBy, SafeIn}
+use Rattle.pass_laws.specs.SafeIn.{MayBy}
 use Rattle.pass_laws.proofs.ListPass.{Aim, Mode, look, sweep, walk, Seen, held, Ended, answers, own_of, judge_pending, judge_mark, judge_content, judge}
 use Rattle.log_facts.specs.Start.{Start}
-use Rattle.pass_laws.proofs.ListEnd.{Reads, IsSweep, PassEnd}
-use Rattle.log_facts.proofs.Mild.{slot_mild}
+use Rattle.pass_laws.proofs.ListEnd.{Reads, IsSweep, PassEnd, Dropping, SafeDrops}
 use Rattle.race_laws.proofs.Sound.{judged_is}
 use Rattle.kv_block.specs.Bytes.{AreBytes}
 use Rattle.log_facts.proofs.Growing.{since_before}
@@ -142,9 +141,9 @@ module _ (s : Setting) (c : ℕ) (q : Past) (l : Legal s q) (t p : ℕ) (h : IsT
       e : Entry
       e = change_in s.geometry c q (slot_at t p) 0
 
-  -- and changes nothing in the map
-  pub drop_calm : Calmly s c q (change_in s.geometry c q (slot_at t p) 0)
-  drop_calm = (ap (changes_by s.geometry q e) (ap (kind_of_role s.geometry q e) (judged_is s.geometry q (sound s q l) (slot_at t p) ∙ slot_is s.geometry q (sound s q l) t p h k) ∙ ap (λ v. slot_kind v (content 0)) st ∙ ap (slot_kind (Full Pending b)) content-0), slot_mild s c q l t p 0 (Full Pending b) Empty h k st content-0 refl)
+  -- and is one
+  pub drop_is : kind s.geometry q (change_in s.geometry c q (slot_at t p) 0) ≡ Some Drop
+  drop_is = ap (kind_of_role s.geometry q e) (judged_is s.geometry q (sound s q l) (slot_at t p) ∙ slot_is s.geometry q (sound s q l) t p h k) ∙ ap (λ v. slot_kind v (content 0)) st ∙ ap (slot_kind (Full Pending b)) content-0
     where
       e : Entry
       e = change_in s.geometry c q (slot_at t p) 0
@@ -159,7 +158,7 @@ module _ (s : Setting) (c : ℕ) (key : List ℕ) (bytes : AreBytes key) (mode :
 
   -- what follows a reading that misses is safe
   abbrev Next : (ℕ → ℕ → Prog Ended) → Type 0
-  Next next = (r q : Past) (word left : ℕ) → Before base r → Before r q → Legal s q → word_at s.geometry r (slot_at t p) ≡ word → Miss r → 1 ≤ left → SafeIn s c q (next word left) End
+  Next next = (r q : Past) (word left : ℕ) → Before base r → Before r q → Legal s q → word_at s.geometry r (slot_at t p) ≡ word → Miss r → 1 ≤ left → SafeDrops mode s c q (next word left) End
 
   abbrev Start0 : Past → Type 0
   Start0 q = Start s.geometry q (hash s key) t
@@ -171,7 +170,7 @@ module _ (s : Setting) (c : ℕ) (key : List ℕ) (bytes : AreBytes key) (mode :
   table_at q b l = let bq = Before-trans bs b in table_before s.geometry bq t t (passing_table s key (own_of mode) from prev t since (legal_before s bq l) pass)
 
   module _ (left word : ℕ) (r q : Past) (br : Before base r) (rq : Before r q) (l : Legal s q) (wd : word_at s.geometry r (slot_at t p) ≡ word) (st0 : Start0 q) (next : ℕ → ℕ → Prog Ended) (nx : Next next) (lost : ℕ → Prog Ended)
-      (again : IsSweep mode → (r2 q2 : Past) (found : ℕ) → Before base r2 → Before r2 q2 → Legal s q2 → word_at s.geometry r2 (slot_at t p) ≡ found → Start0 q2 → SafeIn s c q2 (lost found) End) where
+      (again : IsSweep mode → (r2 q2 : Past) (found : ℕ) → Before base r2 → Before r2 q2 → Legal s q2 → word_at s.geometry r2 (slot_at t p) ≡ found → Start0 q2 → SafeDrops mode s c q2 (lost found) End) where
     lr : Legal s r
     lr = legal_before s rq l
 
@@ -195,7 +194,7 @@ module _ (s : Setting) (c : ℕ) (key : List ℕ) (bytes : AreBytes key) (mode :
       some = omega arith;
     }
 
-    skip : (z : Past) → Legal s z → Before q z → Miss r → SafeIn s c z (next word (suc left)) End
+    skip : (z : Past) → Legal s z → Before q z → Miss r → SafeDrops mode s c z (next word (suc left)) End
     skip z lz bz m = nx r z word (suc left) br (Before-trans rq bz) lz wd m (omega arith)
 
     module _ (b : Body) where
@@ -211,10 +210,10 @@ module _ (s : Setting) (c : ℕ) (key : List ℕ) (bytes : AreBytes key) (mode :
           one : {o : Option Pair} {x y : Pair} → o ≡ Some x → o ≡ Some y → x.key ≡ y.key
           one h k = cc
 
-      mark_live : content word ≡ Full Live b → SafeIn s c q (judge_mark s.geometry (aim_of s key) mode shown t p (suc left) word Live b (next word (suc left)) (next 0 (suc left)) lost) End
+      mark_live : content word ≡ Full Live b → SafeDrops mode s c q (judge_mark s.geometry (aim_of s key) mode shown t p (suc left) word Live b (next word (suc left)) (next 0 (suc left)) lost) End
       mark_live e =
           let nm = standing_named s.geometry r (sound s r lr) t p Live b tr plc (on_mark Live e) in
-          by_block Calmly s c End r b nm.pair nm nm.packs key bytes (λ x. ret (record { table = t; how = held p word x; left = suc left })) (next word (suc left)) q rq l
+          by_block (Dropping mode) s c End r b nm.pair nm nm.packs key bytes (λ x. ret (record { table = t; how = held p word x; left = suc left })) (next word (suc left)) q rq l
           (λ k z lz bz. let w : Word s.geometry r Live t p b nm.pair = record { stands = on_mark Live e; packs = nm.packs } in
           let seat = candidate_of Live nm.pair w k in held_end z lz bz b nm.pair (live t p b nm.pair w k seat.candidate seat.chain))
           (λ n z lz bz. skip z lz bz (other Live nm.pair e nm.packs n))
@@ -233,23 +232,23 @@ module _ (s : Setting) (c : ℕ) (key : List ℕ) (bytes : AreBytes key) (mode :
               subst (λ v. Holder s r v t p b pr) k
               (copy_present s (Before-trans bh.earlier b1) lr x.table t p b pr bh.table plc w.3 tr par (on_mark Copied e) pk)
 
-      mark_copied : content word ≡ Full Copied b → SafeIn s c q (judge_mark s.geometry (aim_of s key) mode shown t p (suc left) word Copied b (next word (suc left)) (next 0 (suc left)) lost) End
+      mark_copied : content word ≡ Full Copied b → SafeDrops mode s c q (judge_mark s.geometry (aim_of s key) mode shown t p (suc left) word Copied b (next word (suc left)) (next 0 (suc left)) lost) End
       mark_copied e =
           let nm = standing_named s.geometry r (sound s r lr) t p Copied b tr plc (on_mark Copied e) in
-          by_cond Calmly s c End q (answers shown p b) _ (next word (suc left))
-          (λ a. by_block Calmly s c End r b nm.pair nm nm.packs key bytes (λ x. ret (record { table = t; how = held p word x; left = suc left })) (next word (suc left)) q rq l
+          by_cond (Dropping mode) s c End q (answers shown p b) _ (next word (suc left))
+          (λ a. by_block (Dropping mode) s c End r b nm.pair nm nm.packs key bytes (λ x. ret (record { table = t; how = held p word x; left = suc left })) (next word (suc left)) q rq l
           (λ k z lz bz. held_end z lz bz b nm.pair (copy_holds e nm.pair nm.packs k (answering s prev shown ps p b a)))
           (λ n z lz bz. skip z lz bz (other Copied nm.pair e nm.packs n)))
           (λ a. skip q l here (miss_full s key (own_of mode) prev t p r Copied b (on_mark Copied e) (λ x px k bad. not_answering s prev shown ps p b a bad)))
 
-      mark_moved : content word ≡ Full Moved b → SafeIn s c q (next word (suc left)) End
+      mark_moved : content word ≡ Full Moved b → SafeDrops mode s c q (next word (suc left)) End
       mark_moved e = skip q l here (miss_full s key (own_of mode) prev t p r Moved b (on_mark Moved e) (λ x px k bad. bad))
 
       -- a drop: won, the slot is empty at the position then; lost, the word found is judged
-      drop_safe : IsSweep mode → content word ≡ Full Pending b → (z : Past) → Legal s z → Before q z → SafeIn s c z (ask (do_verb None (Swap (slot_at t p) word 0)) (λ found. cond (found == word) (next 0 (suc left)) (lost found))) End
+      drop_safe : IsSweep mode → content word ≡ Full Pending b → (z : Past) → Legal s z → Before q z → SafeDrops mode s c z (ask (do_verb None (Swap (slot_at t p) word 0)) (λ found. cond (found == word) (next 0 (suc left)) (lost found))) End
       drop_safe sw e z lz bz = (slot_within s z lz t p (table_at z (Before-trans br (Before-trans rq bz)) lz) plc, λ y ly sy. by y ly (Before-trans bz (since_before sy)))
         where
-          by : (y : Past) → Legal s y → Before q y → MayBy Calmly s c y (Swap (slot_at t p) word 0) (λ n found. SafeIn s c n (cond (found == word) (next 0 (suc left)) (lost found)) End)
+          by : (y : Past) → Legal s y → Before q y → MayBy (Dropping mode) s c y (Swap (slot_at t p) word 0) (λ n found. SafeDrops mode s c n (cond (found == word) (next 0 (suc left)) (lost found)) End)
           by y ly by2 =
               let b1 = Before-trans br (Before-trans rq by2) in
               let ty = table_at y b1 ly in (
@@ -257,13 +256,13 @@ module _ (s : Setting) (c : ℕ) (key : List ℕ) (bytes : AreBytes key) (mode :
                     let st : place_in s.geometry y t p ≡ Full Pending b = ap content same ∙ e in
                     let me = drop_meets s c y ly t p ty plc b st in
                     let zero_now = word_put s.geometry y (change_in s.geometry c y (slot_at t p) 0) (slot_at t p) refl in (
-                      (me, drop_calm s c y ly t p ty plc b st),
-                      by_cond Calmly s c End (change_in s.geometry c y (slot_at t p) 0 ∷ y) (word_at s.geometry y (slot_at t p) == word) (next 0 (suc left)) (lost (word_at s.geometry y (slot_at t p)))
+                      (me, (sw, (drop_is s c y ly t p ty plc b st, refl))),
+                      by_cond (Dropping mode) s c End (change_in s.geometry c y (slot_at t p) 0 ∷ y) (word_at s.geometry y (slot_at t p) == word) (next 0 (suc left)) (lost (word_at s.geometry y (slot_at t p)))
                           (λ v. nx (change_in s.geometry c y (slot_at t p) 0 ∷ y) (change_in s.geometry c y (slot_at t p) 0 ∷ y) 0 (suc left) (later b1) here (ly, me) zero_now
                           (miss_none s key (own_of mode) prev t p (change_in s.geometry c y (slot_at t p) 0 ∷ y) (λ m d f. empty m d (sym (ap content zero_now ∙ content-0) ∙ f))) (omega arith))
                           (λ v. absurd (differ (word_at s.geometry y (slot_at t p)) word same v)),
                     )),
-                (λ n. by_cond Calmly s c End y (word_at s.geometry y (slot_at t p) == word) (next 0 (suc left)) (lost (word_at s.geometry y (slot_at t p)))
+                (λ n. by_cond (Dropping mode) s c End y (word_at s.geometry y (slot_at t p) == word) (next 0 (suc left)) (lost (word_at s.geometry y (slot_at t p)))
                     (λ v. absurd (n (equal (word_at s.geometry y (slot_at t p)) word v)))
                     (λ v. again sw y y (word_at s.geometry y (slot_at t p)) b1 here ly refl (start_before s by2 ly (hash s key) t st0))),
               )
@@ -277,7 +276,7 @@ module _ (s : Setting) (c : ℕ) (key : List ℕ) (bytes : AreBytes key) (mode :
               equal : (x y : ℕ) → (x == y) ≡ true → x ≡ y
               equal x y h = grind (arith, nat_tests)
 
-      pending_as : (md : Mode) → mode ≡ md → content word ≡ Full Pending b → SafeIn s c q (judge_pending s.geometry (aim_of s key) mode md t p b word (next word (suc left)) (next 0 (suc left)) lost) End
+      pending_as : (md : Mode) → mode ≡ md → content word ≡ Full Pending b → SafeDrops mode s c q (judge_pending s.geometry (aim_of s key) mode md t p b word (next word (suc left)) (next 0 (suc left)) lost) End
       pending_as look m e = skip q l here (miss_full s key (own_of mode) prev t p r Pending b (on_mark Pending e) (λ x px k bad. none (ap own_of (sym m) ∙ bad.1)))
         where
           none : {a : ℕ} → None ≡ Some a → ⊥
@@ -288,11 +287,11 @@ module _ (s : Setting) (c : ℕ) (key : List ℕ) (bytes : AreBytes key) (mode :
           none h = cc
       pending_as (sweep u v) m e =
           let nm = standing_named s.geometry r (sound s r lr) t p Pending b tr plc (on_mark Pending e) in
-          by_block Calmly s c End r b nm.pair nm nm.packs key bytes (λ x. ask (do_verb None (Swap (slot_at t p) word 0)) (λ found. cond (found == word) (next 0 (suc left)) (lost found))) (next word (suc left)) q rq l
+          by_block (Dropping mode) s c End r b nm.pair nm nm.packs key bytes (λ x. ask (do_verb None (Swap (slot_at t p) word 0)) (λ found. cond (found == word) (next 0 (suc left)) (lost found))) (next word (suc left)) q rq l
           (λ k z lz bz. drop_safe (subst IsSweep (sym m) tt) e z lz bz)
           (λ n z lz bz. skip z lz bz (other Pending nm.pair e nm.packs n))
 
-      mark_safe : (m : Mark) → content word ≡ Full m b → SafeIn s c q (judge_mark s.geometry (aim_of s key) mode shown t p (suc left) word m b (next word (suc left)) (next 0 (suc left)) lost) End
+      mark_safe : (m : Mark) → content word ≡ Full m b → SafeDrops mode s c q (judge_mark s.geometry (aim_of s key) mode shown t p (suc left) word m b (next word (suc left)) (next 0 (suc left)) lost) End
       mark_safe Live e = mark_live e
       mark_safe Copied e = mark_copied e
       mark_safe Moved e = mark_moved e
@@ -316,7 +315,7 @@ module _ (s : Setting) (c : ℕ) (key : List ℕ) (bytes : AreBytes key) (mode :
             long : b.length ≤ 137 → nat_le b.length 137 ≡ false → ⊥
             long h k = grind (arith, nat_tests)
 
-    content_safe : (v : Content) → content word ≡ v → SafeIn s c q (judge_content s.geometry (aim_of s key) mode shown t p (suc left) word v (next word (suc left)) (next 0 (suc left)) lost) End
+    content_safe : (v : Content) → content word ≡ v → SafeDrops mode s c q (judge_content s.geometry (aim_of s key) mode shown t p (suc left) word v (next word (suc left)) (next 0 (suc left)) lost) End
     content_safe Empty e = skip q l here (miss_none s key (own_of mode) prev t p r (λ m b f. empty m b (sym (ap content wd ∙ e) ∙ f)))
       where
         empty : (m : Mark) (d : Body) → Empty ≡ Full m d → ⊥
@@ -325,10 +324,10 @@ module _ (s : Setting) (c : ℕ) (key : List ℕ) (bytes : AreBytes key) (mode :
       where
         empty : (m : Mark) (d : Body) → NoSlot ≡ Full m d → ⊥
         empty m d h = cc
-    content_safe (Full m b) e = by_cond Calmly s c End q ((b.print == fingerprint_of (hash s key)) && nat_le b.length 137) _ (next word (suc left)) (λ v. mark_safe b m e) (λ v. skip q l here (apart b m e v))
+    content_safe (Full m b) e = by_cond (Dropping mode) s c End q ((b.print == fingerprint_of (hash s key)) && nat_le b.length 137) _ (next word (suc left)) (λ v. mark_safe b m e) (λ v. skip q l here (apart b m e v))
 
   -- a word judged, and those that lost drops found
-  pub judge_safe : (left word : ℕ) (r q : Past) → Before base r → Before r q → Legal s q → word_at s.geometry r (slot_at t p) ≡ word → Start0 q → (1 ≤ left) ⊎ IsSweep mode → (next : ℕ → ℕ → Prog Ended) → Next next → SafeIn s c q (judge s.geometry (aim_of s key) mode shown t p left word next) End
+  pub judge_safe : (left word : ℕ) (r q : Past) → Before base r → Before r q → Legal s q → word_at s.geometry r (slot_at t p) ≡ word → Start0 q → (1 ≤ left) ⊎ IsSweep mode → (next : ℕ → ℕ → Prog Ended) → Next next → SafeDrops mode s c q (judge s.geometry (aim_of s key) mode shown t p left word next) End
   judge_safe zero word r q br rq l wd st0 some next nx = record { start = st0; so = ⊎_elim (λ (h : 1 ≤ 0). absurd (omega arith)) (λ (h : IsSweep mode). h) some; some = refl }
   judge_safe (suc left) word r q br rq l wd st0 some next nx =
       content_safe left word r q br rq l wd st0 next nx (λ found. judge s.geometry (aim_of s key) mode shown t p left found next)

@@ -11,6 +11,10 @@ use Rattle.race_laws.specs.Chains.{Holder}
 use Rattle.race_laws.specs.Chains.{OnChain}
 use Rattle.race_laws.specs.Rows.{IsPlace}
 use Rattle.race_laws.specs.Looks.{Reading, Searched, InOrder, PassedBy}
+use Rattle.verb_log.specs.declared.kind.Kind.TheVariants.{Drop}
+use Rattle.verb_log.specs.Kinds.{kind}
+use Rattle.verbs.specs.Programs.{Prog}
+use Rattle.pass_laws.specs.SafeIn.{Rule, SafeBy}
 use Rattle.pass_laws.proofs.ListPass.{Mode, look, sweep, walk, Shown, How, held, clear, gone, spent, Ended}
 use Rattle.log_facts.specs.Start.{Start}
 
@@ -108,3 +112,11 @@ pub record PassEnd (s : Setting) (key : List ℕ) (mode : Mode) (from q : Past) 
   pub start : Start s.geometry q (hash s key) e.table
   pub so : EndsSo s key mode from q e.table e.how
   pub some : HasLeft e.how e.left
+
+-- own entries in this mode: the drops of a sweep
+abbrev pub Dropping : Mode → Rule
+Dropping mode s c q e = IsSweep mode × ((kind s.geometry q e ≡ Some Drop) × (e.new ≡ 0))
+
+-- safe with no other entries of one's own
+abbrev pub SafeDrops : {A : Type 0} → Mode → Setting → ℕ → Past → Prog A → (Past → A → Type 0) → Type 0
+SafeDrops mode s c p prog End = SafeBy (Dropping mode) s c p prog End

@@ -12,10 +12,9 @@ use Rattle.race_laws.specs.Looks.{Reading, Searched, InOrder, AllMiss, Passing}
 use Rattle.race_laws.specs.Legal.{Legal}
 use Rattle.race_laws.proofs.Passes.{in_order_span}
 use Rattle.race_laws.proofs.Presence.{candidate_place}
-use Rattle.pass_laws.specs.SafeIn.{SafeIn}
 use Rattle.pass_laws.proofs.ListPass.{Mode, Shown, Seen, Ended, own_of, scan}
 use Rattle.log_facts.specs.Start.{Start}
-use Rattle.pass_laws.proofs.ListEnd.{Reads, Saw, PassEnd}
+use Rattle.pass_laws.proofs.ListEnd.{Reads, Saw, PassEnd, Dropping, SafeDrops}
 use Rattle.log_facts.proofs.Growing.{since_before}
 use Rattle.log_facts.proofs.Starts.{start_table, start_before}
 use Rattle.pass_laws.proofs.Seen.{saw_push, in_order_push, all_miss_push, places_push, PrevSaw}
@@ -26,9 +25,9 @@ module _ (s : Setting) (c : ℕ) (key : List ℕ) (bytes : AreBytes key) (mode :
   abbrev pub After : List ℕ → (List Shown → ℕ → Prog Ended) → Type 0
   After whole next =
       (seen : List Reading) (words : List Shown) (base q : Past) (left : ℕ) → InOrder since seen base → Before base q → Legal s q → Saw s.geometry t seen words
-      → AllMiss s key (own_of mode) prev t seen → map (λ (r : Reading). r.place) seen ≡ whole → 1 ≤ left → SafeIn s c q (next words left) (PassEnd s key mode from)
+      → AllMiss s key (own_of mode) prev t seen → map (λ (r : Reading). r.place) seen ≡ whole → 1 ≤ left → SafeDrops mode s c q (next words left) (PassEnd s key mode from)
 
-  pub scan_safe : (some whole : List ℕ) → ((p : ℕ) → IsIn p some → IsIn p (places s key)) → (seen : List Reading) (words : List Shown) (base q : Past) (left : ℕ) → InOrder since seen base → Before base q → Legal s q → Saw s.geometry t seen words → AllMiss s key (own_of mode) prev t seen → map (λ (r : Reading). r.place) seen ++ some ≡ whole → 1 ≤ left → (next : List Shown → ℕ → Prog Ended) → After whole next → SafeIn s c q (scan s.geometry (aim_of s key) mode shown t some words left next) (PassEnd s key mode from)
+  pub scan_safe : (some whole : List ℕ) → ((p : ℕ) → IsIn p some → IsIn p (places s key)) → (seen : List Reading) (words : List Shown) (base q : Past) (left : ℕ) → InOrder since seen base → Before base q → Legal s q → Saw s.geometry t seen words → AllMiss s key (own_of mode) prev t seen → map (λ (r : Reading). r.place) seen ++ some ≡ whole → 1 ≤ left → (next : List Shown → ℕ → Prog Ended) → After whole next → SafeDrops mode s c q (scan s.geometry (aim_of s key) mode shown t some words left next) (PassEnd s key mode from)
   scan_safe [] whole cand seen words base q left io bq l saw miss all lv next f = f seen words base q left io bq l saw miss (sym (append-nil _) ∙ all) lv
   scan_safe (p ∷ some) whole cand seen words base q left io bq l saw miss all lv next f =
       let bs = in_order_span since seen base io in

@@ -29,11 +29,10 @@ use Rattle.race_laws.proofs.Finality.{ripe_before}
 use Rattle.race_laws.proofs.Opening.{splits}
 use Rattle.race_laws.proofs.Chain.{born_at, born_before, chain_table, chain_before, chain_same, way_down}
 use Rattle.race_laws.proofs.Passes.{in_order_span, passing_span, key_gone}
-use Rattle.pass_laws.specs.SafeIn.{Calmly, SafeIn}
 use Rattle.pass_laws.proofs.ListPass.{Mode, look, sweep, walk, Shown, Seen, table_before as text_before, clear, gone, Ended, own_of, has_own, shows_gone, exit_by, places_for, by_header, search_table, search_from, by_start}
 use Rattle.pass_text.specs.Words.{address_of}
 use Rattle.log_facts.specs.Start.{Start, on_chain, below}
-use Rattle.pass_laws.proofs.ListEnd.{Reads, Saw, ClearAt, IsSweep, IsOwn, ClearsSo, PassEnd}
+use Rattle.pass_laws.proofs.ListEnd.{Reads, Saw, ClearAt, IsSweep, IsOwn, ClearsSo, PassEnd, Dropping, SafeDrops}
 use Rattle.log_facts.proofs.Growing.{since_before}
 use Rattle.log_facts.proofs.Within.{table_within}
 use Rattle.pass_laws.proofs.TableAddress.{table_address}
@@ -239,7 +238,7 @@ pub record Scans (s : Setting) (key : List ℕ) (mode : Mode) (from : Past) : Ty
 abbrev pub Searches : Setting → ℕ → List ℕ → Mode → Past → Type 0
 Searches s c key mode from =
     (t b left : ℕ) (since q : Past) → Before from since → Before since q → Legal s q → OnChain s.geometry since (hash s key) t → (IsFilling (header_in s.geometry since t) → ⊥) → Ahead s key mode since t
-    → b ≡ born_at s.geometry since t → 1 ≤ left → SafeIn s c q (search_table s.geometry (aim_of s key) mode (suc s.geometry.max_depth) None t b left) (PassEnd s key mode from)
+    → b ≡ born_at s.geometry since t → 1 ≤ left → SafeDrops mode s c q (search_table s.geometry (aim_of s key) mode (suc s.geometry.max_depth) None t b left) (PassEnd s key mode from)
 
 module _ (s : Setting) (c : ℕ) (key : List ℕ) (bytes : AreBytes key) (mode : Mode) (from : Past) (sc : Scans s key mode from) where
   abbrev End : Past → Ended → Type 0
@@ -271,8 +270,8 @@ module _ (s : Setting) (c : ℕ) (key : List ℕ) (bytes : AreBytes key) (mode :
     }
 
     header_safe : (o : Option ℕ) → exit_by (key_header s end t key) (exit_level (hash s key) (born_at s.geometry end t)) ≡ o → (go_on : ℕ → ℕ → Prog Ended)
-        → ((i ch : ℕ) (q : Past) → Before end q → Legal s q → Passing InOrder s key (own_of mode) from (Some (record { table = t; seen = seen })) ch end → Start s.geometry end (hash s key) ch → Ahead s key mode end ch → born_at s.geometry end ch ≡ i + 1 → born_at s.geometry end t ≤ i → SafeIn s c q (go_on ch (i + 1)) End)
-        → SafeIn s c end (by_header s.geometry (aim_of s key) mode shown t words left (key_header s end t key) o go_on) End
+        → ((i ch : ℕ) (q : Past) → Before end q → Legal s q → Passing InOrder s key (own_of mode) from (Some (record { table = t; seen = seen })) ch end → Start s.geometry end (hash s key) ch → Ahead s key mode end ch → born_at s.geometry end ch ≡ i + 1 → born_at s.geometry end t ≤ i → SafeDrops mode s c q (go_on ch (i + 1)) End)
+        → SafeDrops mode s c end (by_header s.geometry (aim_of s key) mode shown t words left (key_header s end t key) o go_on) End
     header_safe None e go_on f = clear_end (λ i ex g. exit_none (key_header s end t key) (exit_level (hash s key) (born_at s.geometry end t)) e i ex g)
     header_safe (Some i) e go_on f =
         let x = exit_some (key_header s end t key) (exit_level (hash s key) (born_at s.geometry end t)) i e in
@@ -281,7 +280,7 @@ module _ (s : Setting) (c : ℕ) (key : List ℕ) (bytes : AreBytes key) (mode :
         let some = gone_child s end l t (main_of s key) i table2 (main_below s key) e16 low x.1 in
         let chain = start_on s end l (hash s key) t i st2 e16 some in
         let born = (splits s end l).born t i (child_in s.geometry end t i) table2 e16 refl some in
-        by_cond Calmly s c End end (has_own s.geometry mode t) (ret (record { table = t; how = gone (key_header s end t key); left = left })) (ask (do_verb None (Read (child_at t i))) (λ child. go_on (address_of child) (i + 1)))
+        by_cond (Dropping mode) s c End end (has_own s.geometry mode t) (ret (record { table = t; how = gone (key_header s end t key); left = left })) (ask (do_verb None (Read (child_at t i))) (λ child. go_on (address_of child) (i + 1)))
         (λ own. record {
           start = st2;
           so = record {
@@ -303,13 +302,13 @@ module _ (s : Setting) (c : ℕ) (key : List ℕ) (bytes : AreBytes key) (mode :
           λ z lz sz.
               let bz = since_before sz in
               let same : child_in s.geometry end t i ≡ address_of (word_at s.geometry z (child_at t i)) = sym (ap address_of (child_before s bz lz t i table2 e16 some) ∙ table_address s.geometry end (sound s end l) (child_in s.geometry end t i) born.table) in
-              subst (λ v. SafeIn s c z (go_on v (i + 1)) End) same
+              subst (λ v. SafeDrops mode s c z (go_on v (i + 1)) End) same
               (f i (child_in s.geometry end t i) z bz lz (goes_on prev t since end seen i (child_in s.geometry end t i) pass mi x.0 x.1 refl some)
               (below t i (child_in s.geometry end t i) chain x.0 refl some) (own_next s key end l mode t i (child_in s.geometry end t i) ah2 own x.0 refl) born.level low),
         ))
 
   -- a table and all below it
-  pub search_safe : (n : ℕ) (prev : Option Searched) (shown : Option Seen) (t b left : ℕ) (since q : Past) → Passing InOrder s key (own_of mode) from prev t since → Before since q → Legal s q → Start s.geometry since (hash s key) t → Ahead s key mode since t → b ≡ born_at s.geometry since t → s.geometry.max_depth < b + n → PrevSaw s.geometry prev shown → 1 ≤ left → SafeIn s c q (search_table s.geometry (aim_of s key) mode n shown t b left) End
+  pub search_safe : (n : ℕ) (prev : Option Searched) (shown : Option Seen) (t b left : ℕ) (since q : Past) → Passing InOrder s key (own_of mode) from prev t since → Before since q → Legal s q → Start s.geometry since (hash s key) t → Ahead s key mode since t → b ≡ born_at s.geometry since t → s.geometry.max_depth < b + n → PrevSaw s.geometry prev shown → 1 ≤ left → SafeDrops mode s c q (search_table s.geometry (aim_of s key) mode n shown t b left) End
   search_safe zero prev shown t b left since q pass bf l st ah be fuel ps lv =
       let ls = legal_before s bf l in
       let tb = start_table s since ls (hash s key) t st in
@@ -347,7 +346,7 @@ module _ (s : Setting) (c : ℕ) (key : List ℕ) (from : Past) where
   abbrev WalkEnd : Past → Ended → Type 0
   WalkEnd q e = PassEnd s key walk from q e
 
-  walk_safe : (n : ℕ) (shown : Option Seen) (t b left : ℕ) (since q : Past) → Before from since → Before since q → Legal s q → Start s.geometry since (hash s key) t → b ≡ born_at s.geometry since t → s.geometry.max_depth < b + n → 1 ≤ left → SafeIn s c q (search_table s.geometry (aim_of s key) walk n shown t b left) WalkEnd
+  walk_safe : (n : ℕ) (shown : Option Seen) (t b left : ℕ) (since q : Past) → Before from since → Before since q → Legal s q → Start s.geometry since (hash s key) t → b ≡ born_at s.geometry since t → s.geometry.max_depth < b + n → 1 ≤ left → SafeDrops walk s c q (search_table s.geometry (aim_of s key) walk n shown t b left) WalkEnd
   walk_safe zero shown t b left since q bf up l st be fuel lv =
       let ls = legal_before s up l in
       let tb = start_table s since ls (hash s key) t st in
@@ -368,8 +367,8 @@ module _ (s : Setting) (c : ℕ) (key : List ℕ) (from : Past) where
       )
     where
       by : (end : Past) → Legal s end → Before since end → Start s.geometry end (hash s key) t → born_at s.geometry end t ≡ born_at s.geometry since t → (o : Option ℕ) → exit_by (key_header s end t key) (exit_level (hash s key) (born_at s.geometry end t)) ≡ o
-          → ((ch born2 : ℕ) (z : Past) → Before end z → Legal s z → Start s.geometry end (hash s key) ch → born2 ≡ born_at s.geometry end ch → b + 1 ≤ born2 → SafeIn s c z (search_table s.geometry (aim_of s key) walk n (Some (record { table = t; shown = [] })) ch born2 left) WalkEnd)
-          → SafeIn s c end (by_header s.geometry (aim_of s key) walk shown t [] left (key_header s end t key) o (λ child born2. search_table s.geometry (aim_of s key) walk n (Some (record { table = t; shown = [] })) child born2 left)) WalkEnd
+          → ((ch born2 : ℕ) (z : Past) → Before end z → Legal s z → Start s.geometry end (hash s key) ch → born2 ≡ born_at s.geometry end ch → b + 1 ≤ born2 → SafeDrops walk s c z (search_table s.geometry (aim_of s key) walk n (Some (record { table = t; shown = [] })) ch born2 left) WalkEnd)
+          → SafeDrops walk s c end (by_header s.geometry (aim_of s key) walk shown t [] left (key_header s end t key) o (λ child born2. search_table s.geometry (aim_of s key) walk n (Some (record { table = t; shown = [] })) child born2 left)) WalkEnd
       by end le span st2 bb None e f = record { start = st2; so = record { at = end; from_then = Before-trans bf span; till = here; start = st2; last = refl; valid = bucket_valid s end le t (main_of s key) (start_table s end le (hash s key) t st2) (main_below s key); stays = λ i ex g. exit_none (key_header s end t key) (exit_level (hash s key) (born_at s.geometry end t)) e i ex g }; some = lv }
       by end le span st2 bb (Some i) e f =
           let tb2 = start_table s end le (hash s key) t st2 in
@@ -383,7 +382,7 @@ module _ (s : Setting) (c : ℕ) (key : List ℕ) (from : Past) where
             λ z lz sz.
                 let bz = since_before sz in
                 let same : child_in s.geometry end t i ≡ address_of (word_at s.geometry z (child_at t i)) = sym (ap address_of (child_before s bz lz t i tb2 e16 some) ∙ table_address s.geometry end (sound s end le) (child_in s.geometry end t i) born.table) in
-                subst (λ v. SafeIn s c z (search_table s.geometry (aim_of s key) walk n (Some (record { table = t; shown = [] })) v (i + 1) left) WalkEnd) same
+                subst (λ v. SafeDrops walk s c z (search_table s.geometry (aim_of s key) walk n (Some (record { table = t; shown = [] })) v (i + 1) left) WalkEnd) same
                 (f (child_in s.geometry end t i) (i + 1) z bz lz (below t i (child_in s.geometry end t i) chain x.0 refl some) (sym born.level) (omega arith)),
           )
 
@@ -398,10 +397,10 @@ module _ (s : Setting) (c : ℕ) (key : List ℕ) (mode : Mode) (from : Past) (s
   Ends q e = PassEnd s key mode from q e
 
   -- from a table on the chain that does not fill
-  pub search_from_safe : (t left : ℕ) (q : Past) → Before from q → Legal s q → OnChain s.geometry q (hash s key) t → (IsFilling (header_in s.geometry q t) → ⊥) → Ahead s key mode q t → 1 ≤ left → SafeIn s c q (search_from s.geometry (aim_of s key) mode t left) Ends
+  pub search_from_safe : (t left : ℕ) (q : Past) → Before from q → Legal s q → OnChain s.geometry q (hash s key) t → (IsFilling (header_in s.geometry q t) → ⊥) → Ahead s key mode q t → 1 ≤ left → SafeDrops mode s c q (search_from s.geometry (aim_of s key) mode t left) Ends
   search_from_safe t left q bf l ch ripe ah lv =
       let tb = chain_table s q l (hash s key) t ch in
-      by_cond Calmly s c Ends q (nat_lt t (first_free s.geometry)) (search_table s.geometry (aim_of s key) mode (suc s.geometry.max_depth) None t s.geometry.first_depth left) _
+      by_cond (Dropping mode) s c Ends q (nat_lt t (first_free s.geometry)) (search_table s.geometry (aim_of s key) mode (suc s.geometry.max_depth) None t s.geometry.first_depth left) _
       (λ e. sr t s.geometry.first_depth left q q bf here l ch ripe ah (sym (low_born s q l t tb (less t (first_free s.geometry) e))) lv)
       (λ e. (
         birth_low s q l t tb,
@@ -442,7 +441,7 @@ module _ (s : Setting) (c : ℕ) (key : List ℕ) (mode : Mode) (from : Past) (s
   own_before walk b l t o = tt
   own_before (sweep u r) b l t o = (o.0, chain_before s b l (hash s key) u o.1, o.2)
 
-  pub by_start_safe : (t left : ℕ) (q : Past) → Before from q → Legal s q → Start s.geometry q (hash s key) t → Own mode q t → 1 ≤ left → (h : Header) → header_in s.geometry q t ≡ h → SafeIn s c q (by_start s.geometry (aim_of s key) mode t left h) Ends
+  pub by_start_safe : (t left : ℕ) (q : Past) → Before from q → Legal s q → Start s.geometry q (hash s key) t → Own mode q t → 1 ≤ left → (h : Header) → header_in s.geometry q t ≡ h → SafeDrops mode s c q (by_start s.geometry (aim_of s key) mode t left h) Ends
   by_start_safe t left q bf l st o lv (PlainAt d) e = search_from_safe t left q bf l (start_ripe s q l (hash s key) t st (λ f. subst IsFilling e f)) (λ f. subst IsFilling e f) (own_here mode q t o) lv
   by_start_safe t left q bf l st o lv (SplittingAt d) e = search_from_safe t left q bf l (start_ripe s q l (hash s key) t st (λ f. subst IsFilling e f)) (λ f. subst IsFilling e f) (own_here mode q t o) lv
   by_start_safe t left q bf l st o lv NoHeader e = search_from_safe t left q bf l (start_ripe s q l (hash s key) t st (λ f. subst IsFilling e f)) (λ f. subst IsFilling e f) (own_here mode q t o) lv
@@ -454,7 +453,7 @@ module _ (s : Setting) (c : ℕ) (key : List ℕ) (mode : Mode) (from : Past) (s
         λ z lz sz.
             let bz = since_before sz in
             let par : (birth_in s.geometry q t).parent ≡ (birth_in s.geometry z t).parent = ap (λ (v : Birth). v.parent) (sym (birth_before s bz lz t tb)) in
-            subst (λ v. SafeIn s c z (search_from s.geometry (aim_of s key) mode v left) Ends) par
+            subst (λ v. SafeDrops mode s c z (search_from s.geometry (aim_of s key) mode v left) Ends) par
             (search_from_safe (birth_in s.geometry q t).parent left z (Before-trans bf bz) lz (chain_before s bz lz (hash s key) (birth_in s.geometry q t).parent ab.chain)
             (ripe_before s bz lz (birth_in s.geometry q t).parent tp ab.ripe) (ahead_before s key mode bz lz (birth_in s.geometry q t).parent (own_above mode q l t o ab)) lv),
       )

@@ -34,15 +34,17 @@ use Rattle.pass_text.specs.declared.passed.Passed.{Passed}
 use Rattle.pass_text.specs.declared.passed.PassEnd.TheVariants.{Held, Clear, Gone, Spent}
 use Rattle.pass_text.specs.Words.{address_of, head_in, directory_word}
 use Rattle.pass_text.specs.Pass.{opened_at, on_header, at_table, pass}
-use Rattle.pass_laws.specs.SafeIn.{Calmly, SafeIn}
+use Rattle.verb_log.specs.Changes.{changes_by}
+use Rattle.log_facts.specs.Beside.{mild, uses_lock}
+use Rattle.pass_laws.specs.SafeIn.{SafeBy, Calmly, SafeIn, Drops}
 use Rattle.pass_laws.specs.HasPassed as told
 use Rattle.pass_laws.specs.HasPassed.{HasPassed}
 use Rattle.pass_laws.specs.Law.{MayBegin, IsJobOf, PassIsSafe}
 use Rattle.pass_laws.proofs.ListPass.{Mode, look, sweep, walk, Shown, How, held, clear, gone, spent, Ended, by_start}
 use Rattle.pass_laws.proofs.ListEnd as lists
-use Rattle.pass_laws.proofs.ListEnd.{Saw, HasLeft}
+use Rattle.pass_laws.proofs.ListEnd.{Saw, HasLeft, Dropping}
 use Rattle.pass_laws.proofs.Bridge.{safe_in_order}
-use Rattle.pass_laws.proofs.Rules.{by_end, by_kept}
+use Rattle.pass_laws.proofs.Rules.{by_weaker, by_end, by_kept}
 use Rattle.pass_laws.proofs.TableAddress.{table_address}
 use Rattle.pass_laws.proofs.Searching.{Own, all_searches, own_before, by_start_safe, header_low}
 use Rattle.pass_laws.proofs.Sim.{Sim, safe_sim, SameMode, LostSo, HeadSo, EndsAlike, FreeFrom, FreeSo, Alike, aim_of}
@@ -128,18 +130,30 @@ module _ (s : Setting) (c : ℕ) (j : Job) (job : IsJobOf s j) (md : Mode) (left
   abbrev key : List ℕ
   key = j.key
 
+  -- drops are those of this mode
+  drops_as : (pm : PassMode) (m : Mode) (left : ℕ) → SameMode pm m left → (x : Past) (e : Entry) → Dropping m s c x e → Drops pm s c x e
+  drops_as Look look left same x e r = absurd r.0
+  drops_as (Sweep own n) (sweep u p) left same x e r = r.1
+  drops_as Walk walk left same x e r = absurd r.0
+  drops_as Look (sweep u p) left same x e r = absurd same
+  drops_as Look walk left same x e r = absurd same
+  drops_as Walk look left same x e r = absurd same
+  drops_as Walk (sweep u p) left same x e r = absurd same
+  drops_as (Sweep own n) look left same x e r = absurd same
+  drops_as (Sweep own n) walk left same x e r = absurd same
+
   abbrev End : Past → Passed → Type 0
   End y p = HasPassed s key j.mode from y p
 
   -- from a table where a pass may start
-  pub at_table_safe : (t : ℕ) (q : Past) → Before from q → Legal s q → Start s.geometry q (hash s key) t → Own s c key md q (all_searches s c key job.bytes md q) md q t → SafeIn s c q (at_table j t) End
+  pub at_table_safe : (t : ℕ) (q : Past) → Before from q → Legal s q → Start s.geometry q (hash s key) t → Own s c key md q (all_searches s c key job.bytes md q) md q t → SafeBy (Drops j.mode) s c q (at_table j t) End
   at_table_safe t q bf l st own = (header_low s q l t (start_table s q l (hash s key) t st), λ z lz sz. opens z lz (since_before sz))
     where
-      opens : (z : Past) → Legal s z → Before q z → SafeIn s c z (on_header j t (head_in (word_at s.geometry z (header_at t)))) End
-      opens z lz bz = by_end Calmly s c z (on_header j t head) (λ y p. ((e : Ended) × Alike j o p e × lists.PassEnd s key md z y e) × Before z y) End
+      opens : (z : Past) → Legal s z → Before q z → SafeBy (Drops j.mode) s c z (on_header j t (head_in (word_at s.geometry z (header_at t)))) End
+      opens z lz bz = by_end (Drops j.mode) s c z (on_header j t head) (λ y p. ((e : Ended) × Alike j o p e × lists.PassEnd s key md z y e) × Before z y) End
           (λ y p x. passed y p x.0.0 x.0.1 x.0.2 x.1)
-          (by_kept Calmly s c (Before z) (record { others = λ x e h d b. later b; own = λ x e h r b. later b }) z (on_header j t head) (λ y p. (e : Ended) × Alike j o p e × lists.PassEnd s key md z y e) here
-          (safe_sim Calmly s c (Alike j o) z (on_header j t head) (by_start j.geometry (aim_of j) md t left0 (header_of (Some head))) (lists.PassEnd s key md z) (header_sim j o md left0 same t head refl) listed))
+          (by_kept (Drops j.mode) s c (Before z) (record { others = λ x e h d b. later b; own = λ x e h r b. later b }) z (on_header j t head) (λ y p. (e : Ended) × Alike j o p e × lists.PassEnd s key md z y e) here
+          (safe_sim (Drops j.mode) s c (Alike j o) z (on_header j t head) (by_start j.geometry (aim_of j) md t left0 (header_of (Some head))) (lists.PassEnd s key md z) (header_sim j o md left0 same t head refl) listed))
         where
           head : Head
           head = head_in (word_at s.geometry z (header_at t))
@@ -153,10 +167,11 @@ module _ (s : Setting) (c : ℕ) (j : Job) (job : IsJobOf s j) (md : Mode) (left
           head_at : header_in s.geometry z t ≡ header_of (Some head)
           head_at = ⊎_elim (λ (x : header_of (Some head) ≡ header_in s.geometry z t). sym x) (λ (x : header_in s.geometry z t ≡ NoHeader). absurd ((splits s z lz).valid t (start_table s z lz (hash s key) t stz) x)) (head_alike (word_at s.geometry z (header_at t)))
 
-          listed : SafeIn s c z (by_start j.geometry (aim_of j) md t left0 (header_of (Some head))) (lists.PassEnd s key md z)
-          listed = subst (λ (g : Geometry). SafeIn s c z (by_start g (aim_of j) md t left0 (header_of (Some head))) (lists.PassEnd s key md z)) (sym job.geometry)
-              (subst (λ h. SafeIn s c z (by_start s.geometry (record { key = key; hash = h }) md t left0 (header_of (Some head))) (lists.PassEnd s key md z)) (sym job.hash)
-              (by_start_safe s c key md z (all_searches s c key job.bytes md z) t left0 z here lz stz (own_before s c key md z (all_searches s c key job.bytes md z) md bz lz t own) some (header_of (Some head)) head_at))
+          listed : SafeBy (Drops j.mode) s c z (by_start j.geometry (aim_of j) md t left0 (header_of (Some head))) (lists.PassEnd s key md z)
+          listed = subst (λ (g : Geometry). SafeBy (Drops j.mode) s c z (by_start g (aim_of j) md t left0 (header_of (Some head))) (lists.PassEnd s key md z)) (sym job.geometry)
+              (subst (λ h. SafeBy (Drops j.mode) s c z (by_start s.geometry (record { key = key; hash = h }) md t left0 (header_of (Some head))) (lists.PassEnd s key md z)) (sym job.hash)
+              (by_weaker (Dropping md) s c (Drops j.mode) (λ x e r. drops_as j.mode md left0 same x e r) z (by_start s.geometry (record { key = key; hash = hash s key }) md t left0 (header_of (Some head))) (lists.PassEnd s key md z) (lists.PassEnd s key md z) (λ n a h. h)
+              (by_start_safe s c key md z (all_searches s c key job.bytes md z) t left0 z here lz stz (own_before s c key md z (all_searches s c key job.bytes md z) md bz lz t own) some (header_of (Some head)) head_at)))
 
           passed : (y : Past) (p : Passed) (e : Ended) → Alike j o p e → lists.PassEnd s key md z y e → Before z y → End y p
           passed y p e a x b = record {
@@ -169,11 +184,11 @@ module _ (s : Setting) (c : ℕ) (j : Job) (job : IsJobOf s j) (md : Mode) (left
           }
 
   -- from a cached table
-  pub cached_safe : (t : ℕ) (q : Past) → Before from q → Legal s q → Start s.geometry q (hash s key) t → Own s c key md q (all_searches s c key job.bytes md q) md q t → SafeIn s c q (pass j (Some t)) End
-  cached_safe t q bf l st own = subst (λ v. SafeIn s c q (at_table j v) End) (sym (table_address s.geometry q (sound s q l) t (start_table s q l (hash s key) t st))) (at_table_safe t q bf l st own)
+  pub cached_safe : (t : ℕ) (q : Past) → Before from q → Legal s q → Start s.geometry q (hash s key) t → Own s c key md q (all_searches s c key job.bytes md q) md q t → SafeBy (Drops j.mode) s c q (pass j (Some t)) End
+  cached_safe t q bf l st own = subst (λ v. SafeBy (Drops j.mode) s c q (at_table j v) End) (sym (table_address s.geometry q (sound s q l) t (start_table s q l (hash s key) t st))) (at_table_safe t q bf l st own)
 
   -- through the directory
-  pub directory_safe : (q : Past) → Before from q → Legal s q → ((y : Past) (t : ℕ) → Own s c key md y (all_searches s c key job.bytes md y) md y t) → SafeIn s c q (pass j None) End
+  pub directory_safe : (q : Past) → Before from q → Legal s q → ((y : Past) (t : ℕ) → Own s c key md y (all_searches s c key job.bytes md y) md y t) → SafeBy (Drops j.mode) s c q (pass j None) End
   unfolding directory_word
   directory_safe q bf l own =
       let d = first_free_directory s.geometry in
@@ -194,22 +209,22 @@ module _ (s : Setting) (c : ℕ) (j : Job) (job : IsJobOf s j) (md : Mode) (left
           let p = pow_up (word_at s.geometry y 1) s.geometry.max_depth ds.depth_low in
           omega arith
 
-      named : (y : Past) → Legal s y → Before from y → (n : ℕ) → n ≡ word_at s.geometry y 1 → SafeIn s c y (ask (do_verb None (Read (directory_at (j.hash % 2 ^ n)))) (λ t. at_table j (address_of t))) End
-      named y ly bfy n e = subst (λ v. SafeIn s c y (ask (do_verb None (Read (directory_at v))) (λ t. at_table j (address_of t))) End) (ap (λ h. h % 2 ^ word_at s.geometry y 1) (sym job.hash) ∙ ap (λ v. j.hash % 2 ^ v) (sym e)) (
+      named : (y : Past) → Legal s y → Before from y → (n : ℕ) → n ≡ word_at s.geometry y 1 → SafeBy (Drops j.mode) s c y (ask (do_verb None (Read (directory_at (j.hash % 2 ^ n)))) (λ t. at_table j (address_of t))) End
+      named y ly bfy n e = subst (λ v. SafeBy (Drops j.mode) s c y (ask (do_verb None (Read (directory_at v))) (λ t. at_table j (address_of t))) End) (ap (λ h. h % 2 ^ word_at s.geometry y 1) (sym job.hash) ∙ ap (λ v. j.hash % 2 ^ v) (sym e)) (
         low y (directs s y ly),
         λ z lz sz.
             let byz = since_before sz in
             let t = word_at s.geometry z (directory_at (hash s key % 2 ^ word_at s.geometry y 1)) in
             let ch = directory_chain s byz lz (hash s key) in
-            subst (λ v. SafeIn s c z (at_table j v) End) (sym (table_address s.geometry z (sound s z lz) t (chain_table s z lz (hash s key) t ch)))
+            subst (λ v. SafeBy (Drops j.mode) s c z (at_table j v) End) (sym (table_address s.geometry z (sound s z lz) t (chain_table s z lz (hash s key) t ch)))
             (at_table_safe t z (Before-trans bfy byz) lz (on_chain t ch) (own z t)),
       )
 
 -- each pass, newest entry first
-pub pass_safe : (s : Setting) (c : ℕ) (j : Job) → IsJobOf s j → (start : Option ℕ) (q : Past) → Legal s q → MayBegin s j.key j.mode q start → SafeIn s c q (pass j start) (λ y p. HasPassed s j.key j.mode q y p)
+pub pass_safe : (s : Setting) (c : ℕ) (j : Job) → IsJobOf s j → (start : Option ℕ) (q : Past) → Legal s q → MayBegin s j.key j.mode q start → SafeBy (Drops j.mode) s c q (pass j start) (λ y p. HasPassed s j.key j.mode q y p)
 pass_safe s c j job start q l b = by j.mode refl start b
   where
-    by : (pm : PassMode) → j.mode ≡ pm → (start : Option ℕ) → MayBegin s j.key pm q start → SafeIn s c q (pass j start) (λ y p. HasPassed s j.key j.mode q y p)
+    by : (pm : PassMode) → j.mode ≡ pm → (start : Option ℕ) → MayBegin s j.key pm q start → SafeBy (Drops j.mode) s c q (pass j start) (λ y p. HasPassed s j.key j.mode q y p)
     by Look e None b = directory_safe s c j job look 1 (subst (λ v. SameMode v look 1) (sym e) (omega arith)) (omega arith) q q here l (λ y t. tt)
     by Look e (Some t) b = cached_safe s c j job look 1 (subst (λ v. SameMode v look 1) (sym e) (omega arith)) (omega arith) q t q here l b tt
     by Walk e None b = directory_safe s c j job walk 1 (subst (λ v. SameMode v walk 1) (sym e) (omega arith)) (omega arith) q q here l (λ y t. tt)
@@ -217,5 +232,15 @@ pass_safe s c j job start q l b = by j.mode refl start b
     by (Sweep own n) e None b = absurd b
     by (Sweep own n) e (Some t) b = cached_safe s c j job (sweep t b.2.0) n (subst (λ v. SameMode v (sweep t b.2.0) n) (sym e) (b.2.2, refl, b.1)) b.1 q t q here l (on_chain t b.0) (refl, b.0, b.2.1)
 
+-- a drop changes nothing in the map, and uses no lock
+pub drop_calmly : (s : Setting) (c : ℕ) (pm : PassMode) (q : Past) (e : Entry) → Drops pm s c q e → Calmly s c q e
+drop_calmly s c Look q e d = absurd d
+drop_calmly s c (Sweep own n) q e d = (ap (changes_by s.geometry q e) d.0, mild (ap uses_lock d.0))
+drop_calmly s c Walk q e d = absurd d
+
+-- .. as part of a call
+pub pass_calm : (s : Setting) (c : ℕ) (j : Job) → IsJobOf s j → (start : Option ℕ) (q : Past) → Legal s q → MayBegin s j.key j.mode q start → SafeIn s c q (pass j start) (λ y p. HasPassed s j.key j.mode q y p)
+pass_calm s c j job start q l b = by_weaker (Drops j.mode) s c Calmly (λ x e d. drop_calmly s c j.mode x e d) q (pass j start) (λ y p. HasPassed s j.key j.mode q y p) (λ y p. HasPassed s j.key j.mode q y p) (λ n a h. h) (pass_safe s c j job start q l b)
+
 pub pass_is_safe : PassIsSafe
-pass_is_safe s c j start log l job b = safe_in_order s c log (pass j start) (λ y p. HasPassed s j.key j.mode (reverse log) y p) (pass_safe s c j job start (reverse log) l b)
+pass_is_safe s c j start log l job b = safe_in_order s c log (pass j start) (λ y p. HasPassed s j.key j.mode (reverse log) y p) (pass_calm s c j job start (reverse log) l b)
