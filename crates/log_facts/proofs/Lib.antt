@@ -17,3 +17,11 @@ pub mod Filled
 pub mod Never
 pub mod Keeps
 pub mod TheStarts
+pub mod SlotWords
+pub mod HeadWords
+pub mod Marks
+pub mod Silent
+pub mod Taking
+pub mod Known
+pub mod Written
+pub mod Places

@@ -5,3 +5,4 @@ pub mod Among
 pub mod StartLaws
 pub mod Mine
 pub mod Reached
+pub mod SlotWords
