@@ -25,3 +25,7 @@ pub mod Taking
 pub mod Known
 pub mod Written
 pub mod Places
+pub mod Passings
+pub mod Naming
+pub mod Modest
+pub mod Unchanging

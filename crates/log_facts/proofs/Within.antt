@@ -1,17 +1,21 @@
 -- The words of a table and of a named block are words of the memory, and those of a named block never change.
-use Rattle.std.specs.Prelude.{◌≡◌, ℕ, zero, suc, ◌+◌, ◌<◌, ◌≤◌, Bool, true, false, cond, nat_le, ◌%◌, ◌^◌, List, length, Some, None, refl}
-use Rattle.std.proofs.Common.{◌∙◌, ap, arith, ⊎_elim}
+use Rattle.std.specs.Prelude.{◌≡◌, ℕ, zero, suc, ◌+◌, ◌*◌, ◌/◌, ◌<◌, ◌≤◌, Bool, true, false, cond, nat_le, ◌%◌, ◌^◌, List, length, Some, None, refl}
+use Rattle.std.proofs.Common.{subst, ◌∙◌, ap, arith, ⊎_elim}
 use Rattle.std.proofs.lemmas.Bool.Decides.{nat_tests}
 use Rattle.kv_block.specs.Packing.{Pair, packed, unpacked}
 use Rattle.kv_block.proofs.Packed.{packed_most, IsPair-from_unpacked, packed_of_unpacked}
 use Rattle.node_words.specs.declared.geometry.Geometry.{Geometry}
-use Rattle.node_words.specs.Addresses.{node_of, node_at, table_words, first_free}
+use Rattle.node_words.specs.Addresses.{header_at, birth_at, child_at, slot_at, bucket_header_at, node_of, node_at, table_words, first_free}
 use Rattle.node_words.proofs.Sizes.{node_ends}
 use Rattle.node_words.proofs.FirstTables.{IsInFirst, first_in_words}
 use Rattle.verb_log.specs.Decoded.{Body}
 use Rattle.verb_log.proofs.BlockWords.{length-words_at, pair_unpacked}
 use Rattle.verb_log.specs.Tables.{Past, Before, here, later, word_at, words_at, pair_at}
+use Rattle.race_laws.specs.Setting.{Setting}
 use Rattle.race_laws.specs.Standing.{IsTable}
+use Rattle.race_laws.specs.Rows.{IsPlace}
+use Rattle.race_laws.specs.Legal.{Legal}
+use Rattle.race_laws.proofs.SoundStep.{sound}
 use Rattle.race_laws.proofs.Regions.{base_low}
 use Rattle.race_laws.proofs.Sound.{Sound}
 
@@ -48,3 +52,50 @@ table_small g q so t h =
   where
     some_words : (g : Geometry) → 0 < table_words g
     some_words g = omega arith
+
+-- the words of a table by what they are
+module _ (s : Setting) (q : Past) (l : Legal s q) (t : ℕ) (h : IsTable s.geometry q t) where
+  at_offset : (o a : ℕ) → t + o ≡ a → o < table_words s.geometry → a < s.geometry.words
+  at_offset o a e k = subst (λ v. v < s.geometry.words) e (table_within s.geometry q (sound s q l) t o h k)
+
+  pub bucket_low : (m : ℕ) → m < 2 * s.geometry.groups → bucket_header_at t m < s.geometry.words
+  bucket_low m k = at_offset (20 + 24 * (m / 2) + 16 * (m % 2)) (bucket_header_at t m) (there t m) (within m k)
+    where
+      there : (t m : ℕ) → t + (20 + 24 * (m / 2) + 16 * (m % 2)) ≡ bucket_header_at t m
+      there t m = omega arith
+
+      within : (m : ℕ) → m < 2 * s.geometry.groups → 20 + 24 * (m / 2) + 16 * (m % 2) < table_words s.geometry
+      within m k = omega arith
+
+  pub child_low : (i : ℕ) → i < 16 → child_at t i < s.geometry.words
+  child_low i k = at_offset (4 + i) (child_at t i) (there t i) (within i k)
+    where
+      there : (t i : ℕ) → t + (4 + i) ≡ child_at t i
+      there t i = omega arith
+
+      within : (i : ℕ) → i < 16 → 4 + i < table_words s.geometry
+      within i k = omega arith
+
+  pub header_low : header_at t < s.geometry.words
+  header_low = at_offset 1 (header_at t) refl (small 1 (omega arith))
+    where
+      small : (o : ℕ) → o < 20 → o < table_words s.geometry
+      small o k = omega arith
+
+  pub birth_low : birth_at t < s.geometry.words
+  birth_low = at_offset 0 (birth_at t) (there t) (small 0 (omega arith))
+    where
+      there : (t : ℕ) → t + 0 ≡ t
+      there t = omega arith
+
+      small : (o : ℕ) → o < 20 → o < table_words s.geometry
+      small o k = omega arith
+
+pub slot_within : (s : Setting) (q : Past) → Legal s q → (t p : ℕ) → IsTable s.geometry q t → IsPlace s.geometry p → slot_at t p < s.geometry.words
+slot_within s q l t p h k = subst (λ v. v < s.geometry.words) (there t p) (table_within s.geometry q (sound s q l) t (20 + p) h (room p k.0))
+  where
+    there : (t p : ℕ) → t + (20 + p) ≡ slot_at t p
+    there t p = omega arith
+
+    room : (p : ℕ) → p < 24 * s.geometry.groups → 20 + p < table_words s.geometry
+    room p h = omega arith

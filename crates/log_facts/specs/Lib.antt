@@ -6,3 +6,5 @@ pub mod StartLaws
 pub mod Mine
 pub mod Reached
 pub mod SlotWords
+pub mod Passings
+pub mod Entries

@@ -20,7 +20,8 @@ use Rattle.race_laws.specs.Legal.{Meets}
 use Rattle.log_facts.proofs.Growing.{stands_legal, longer_since, change_same}
 use Rattle.log_facts.specs.Among.{among, changes_of, quiet_among}
 use Rattle.log_facts.specs.Since.{change_in, Since, same, more}
-use Rattle.pass_laws.specs.SafeIn.{Rule, MayBy, MayDoBy, SafeBy, Unchanging, Calmly, SafeIn}
+use Rattle.log_facts.specs.Entries.{Unchanging}
+use Rattle.pass_laws.specs.SafeIn.{Rule, MayBy, MayDoBy, SafeBy, Calmly, SafeIn}
 
 -- an entry that changes nothing in the map changes nothing that a log tells
 quietly : (s : Setting) (c : ℕ) (l : Entries) (e : Entry) → Meets s (reverse l) e × Unchanging s c (reverse l) e → follows_quietly (among s c) (changes_of s) l e

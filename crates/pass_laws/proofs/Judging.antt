@@ -44,46 +44,16 @@ use Rattle.pass_laws.proofs.ListEnd.{Reads, IsSweep, PassEnd, Dropping, SafeDrop
 use Rattle.race_laws.proofs.Sound.{judged_is}
 use Rattle.kv_block.specs.Bytes.{AreBytes}
 use Rattle.log_facts.proofs.Growing.{since_before}
-use Rattle.log_facts.proofs.Within.{table_within, block_length}
+use Rattle.log_facts.proofs.Within.{block_length, slot_within}
 use Rattle.log_facts.proofs.Prints.{prints}
 use Rattle.log_facts.proofs.Starts.{start_before}
+use Rattle.log_facts.proofs.Passings.{Behind, passing_table, passing_behind}
 use Rattle.pass_laws.proofs.Seen.{PrevSaw, answering, not_answering}
 use Rattle.pass_laws.proofs.Rules.{by_cond}
 use Rattle.pass_laws.proofs.Blocks.{by_block}
 
 abbrev pub aim_of : Setting → List ℕ → Aim
 aim_of s key = record { key = key; hash = hash s key }
-
--- a table that a pass has come to is one of the log, and the table before it is its parent
-pub passing_table : (s : Setting) (key : List ℕ) (own : Option ℕ) (from : Past) (prev : Option Searched) (t : ℕ) (since : Past) → Legal s since → Passing InOrder s key own from prev t since → IsTable s.geometry since t
-passing_table s key own from prev t since l (begins u at b c f) = chain_table s since l (hash s key) t c
-passing_table s key own from prev t since l (goes_on v u from2 end seen i c k mi ex g ch n) =
-    let b = in_order_span from2 seen since mi.stand in
-    let tb = table_before s.geometry b u u (passing_table s key own from v u from2 (legal_before s b l) k) in
-    ((splits s since l).born u i t tb (exit-below (hash s key) (born_at s.geometry since u) i ex) ch n).table
-
-pub record Behind (s : Setting) (before : Searched) (t : ℕ) (since : Past) (x : Reading) : Type 0 where
-  pub earlier : Before x.at since
-  pub table : IsTable s.geometry x.at before.table
-  pub parent : parent_of s.geometry since t ≡ before.table
-
-pub passing_behind : (s : Setting) (key : List ℕ) (own : Option ℕ) (from : Past) (prev : Option Searched) (t : ℕ) (since : Past) → Legal s since → Passing InOrder s key own from prev t since → (before : Searched) → prev ≡ Some before → (x : Reading) → IsIn x before.seen → Behind s before t since x
-passing_behind s key own from prev t since l (begins u at b c f) before e x a = absurd (cc)
-passing_behind s key own from prev t since l (goes_on v u from2 end seen i c k mi ex g ch n) before e x a = subst (λ z. Behind s z t since x) (same e) (by (subst (λ (z : Searched). IsIn x z.seen) (sym (same e)) a))
-  where
-    this : Searched
-    this = record { table = u; seen = seen }
-
-    same : Some this ≡ Some before → this ≡ before
-    same e = cc
-
-    by : IsIn x seen → Behind s this t since x
-    by a =
-        let b = in_order_span from2 seen since mi.stand in
-        let st = reading_stands from2 seen since (in_order_between from2 seen since mi.stand) x a in
-        let t0 = passing_table s key own from v u from2 (legal_before s b l) k in
-        let born = (splits s since l).born u i t (table_before s.geometry b u u t0) (exit-below (hash s key) (born_at s.geometry since u) i ex) ch n in
-        record { earlier = st.1; table = table_before s.geometry st.0 u u t0; parent = born.parent }
 
 mark_of : (m n : Mark) (b c : Body) → Full m b ≡ Full n c → m ≡ n
 mark_of m n b c h = cc
@@ -118,15 +88,6 @@ module _ (s : Setting) (key : List ℕ) (own : Option ℕ) (prev : Option Search
     copied = λ d x w k an. f Copied d w.stands;
     pending = λ a o d x w k. f Pending d w.stands;
   }
-
-pub slot_within : (s : Setting) (q : Past) → Legal s q → (t p : ℕ) → IsTable s.geometry q t → IsPlace s.geometry p → slot_at t p < s.geometry.words
-slot_within s q l t p h k = subst (λ v. v < s.geometry.words) (there t p) (table_within s.geometry q (sound s q l) t (20 + p) h (room p k.0))
-  where
-    there : (t p : ℕ) → t + (20 + p) ≡ slot_at t p
-    there t p = omega arith
-
-    room : (p : ℕ) → p < 24 * s.geometry.groups → 20 + p < table_words s.geometry
-    room p h = omega arith
 
 -- a drop may follow
 module _ (s : Setting) (c : ℕ) (q : Past) (l : Legal s q) (t p : ℕ) (h : IsTable s.geometry q t) (k : IsPlace s.geometry p) (b : Body) (st : place_in s.geometry q t p ≡ Full Pending b) where

@@ -7,7 +7,11 @@ pub mod TableAddress
 pub mod Seen
 pub mod Judging
 pub mod Scanning
+pub mod Exits
+pub mod OwnSlot
 pub mod Searching
 pub mod Sim
+pub mod SameWords
+pub mod SameSeen
 pub mod SamePass
 pub mod Whole

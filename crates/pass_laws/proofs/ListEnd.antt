@@ -16,6 +16,7 @@ use Rattle.verb_log.specs.Kinds.{kind}
 use Rattle.verbs.specs.Programs.{Prog}
 use Rattle.pass_laws.specs.SafeIn.{Rule, SafeBy}
 use Rattle.pass_laws.proofs.ListPass.{Mode, look, sweep, walk, Shown, How, held, clear, gone, spent, Ended}
+use Rattle.log_facts.specs.Passings.{searched_before}
 use Rattle.log_facts.specs.Start.{Start}
 
 -- readings, and the words that they showed
@@ -42,10 +43,6 @@ pub record HeldAt (s : Setting) (key : List ℕ) (mode : Mode) (from q : Past) (
   pub holder : Holder s at key t p body pair
   pub value_is : pair.value ≡ value
   pub word_is : word_at s.geometry at (slot_at t p) ≡ word
-
-abbrev pub searched_before : Option Searched → Option ℕ
-searched_before None = None
-searched_before (Some x) = Some x.table
 
 -- no candidate of the chain had the key: looked, or swept; with the words read in the last table, and the last header
 pub record ClearAt (s : Setting) (key : List ℕ) (own : Option ℕ) (from q : Past) (t : ℕ) (parent : Option ℕ) (shown : List Shown) (h : Header) : Type 0 where

@@ -18,7 +18,8 @@ use Rattle.pass_laws.proofs.ListEnd.{Reads, Saw, PassEnd, Dropping, SafeDrops}
 use Rattle.log_facts.proofs.Growing.{since_before}
 use Rattle.log_facts.proofs.Starts.{start_table, start_before}
 use Rattle.pass_laws.proofs.Seen.{saw_push, in_order_push, all_miss_push, places_push, PrevSaw}
-use Rattle.pass_laws.proofs.Judging.{aim_of, slot_within, judge_safe}
+use Rattle.log_facts.proofs.Within.{slot_within}
+use Rattle.pass_laws.proofs.Judging.{aim_of, judge_safe}
 
 module _ (s : Setting) (c : ℕ) (key : List ℕ) (bytes : AreBytes key) (mode : Mode) (reads : Reads mode) (from : Past) (prev : Option Searched) (shown : Option Seen) (t : ℕ) (since : Past) (ps : PrevSaw s.geometry prev shown) (pass : Passing InOrder s key (own_of mode) from prev t since) (st : Start s.geometry since (hash s key) t) where
   -- what follows a whole table that misses is safe

@@ -14,7 +14,8 @@ use Rattle.race_laws.specs.Looks.{Reading, Searched, InOrder, Answers, IsMiss, A
 use Rattle.race_laws.proofs.Step.{same_body_is}
 use Rattle.race_laws.proofs.Touch.{and_both, or_either}
 use Rattle.pass_laws.proofs.ListPass.{Shown, Seen, is_moved, shows_moved, answers, table_before}
-use Rattle.pass_laws.proofs.ListEnd.{Saw, searched_before}
+use Rattle.log_facts.specs.Passings.{searched_before}
+use Rattle.pass_laws.proofs.ListEnd.{Saw}
 
 pub saw_push : (g : Geometry) (t : ℕ) (seen : List Reading) (shown : List Shown) → Saw g t seen shown → (r : Reading) (x : Shown) → r.place ≡ x.place → word_at g r.at (slot_at t r.place) ≡ x.word → Saw g t (seen ++ r ∷ []) (shown ++ x ∷ [])
 saw_push g t [] [] h r x p w = (p, w, tt)

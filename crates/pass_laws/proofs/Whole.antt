@@ -22,9 +22,11 @@ use Rattle.race_laws.proofs.SoundStep.{sound}
 use Rattle.race_laws.proofs.Opening.{splits}
 use Rattle.race_laws.proofs.Chain.{chain_table}
 use Rattle.log_facts.specs.Since.{Since}
+use Rattle.log_facts.specs.Passings.{searched_before}
 use Rattle.log_facts.specs.Start.{Start, on_chain}
 use Rattle.log_facts.proofs.Growing.{since_before}
 use Rattle.log_facts.proofs.Starts.{start_table, start_before}
+use Rattle.log_facts.proofs.Within.{header_low}
 use Rattle.log_facts.proofs.Directory.{Directs, directs, pow_up, directory_chain}
 use Rattle.pass_text.specs.declared.job.Job.{Job}
 use Rattle.pass_text.specs.declared.job.Opened.{Opened}
@@ -46,9 +48,10 @@ use Rattle.pass_laws.proofs.ListEnd.{Saw, HasLeft, Dropping}
 use Rattle.pass_laws.proofs.Bridge.{safe_in_order}
 use Rattle.pass_laws.proofs.Rules.{by_weaker, by_end, by_kept}
 use Rattle.pass_laws.proofs.TableAddress.{table_address}
-use Rattle.pass_laws.proofs.Searching.{Own, all_searches, own_before, by_start_safe, header_low}
+use Rattle.pass_laws.proofs.Searching.{Own, all_searches, own_before, by_start_safe}
 use Rattle.pass_laws.proofs.Sim.{Sim, safe_sim, SameMode, LostSo, HeadSo, EndsAlike, FreeFrom, FreeSo, Alike, aim_of}
-use Rattle.pass_laws.proofs.SamePass.{header_sim, head_alike}
+use Rattle.pass_laws.proofs.SameWords.{head_alike}
+use Rattle.pass_laws.proofs.SamePass.{header_sim}
 
 -- the header told is the one read
 head_is : (p : Passed) (h : Header) → HeadSo p h → h ≢ NoHeader → h ≡ header_of (Some p.head)
@@ -69,7 +72,7 @@ module _ (s : Setting) (key : List ℕ) (z y : Past) (p : Passed) where
   clear_told : (own : Option ℕ) (parent : Option ℕ) (shown : List Shown) (h : Header) → lists.ClearAt s key own z y p.table parent shown h → p.parent ≡ parent → HeadSo p h → told.ClearAt s key own z y p
   clear_told own parent shown h c e hs = record { passed = c.passed; table = c.table; parent = same (c.passed).prev c.parent_is; head = c.last ∙ head_is p h hs c.valid }
     where
-      same : (v : _) → lists.searched_before v ≡ parent → told.searched_before v ≡ p.parent
+      same : (v : _) → searched_before v ≡ parent → searched_before v ≡ p.parent
       same None q = q ∙ sym e
       same (Some x) q = q ∙ sym e
 

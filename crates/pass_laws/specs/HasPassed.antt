@@ -10,6 +10,7 @@ use Rattle.race_laws.specs.Setting.{Setting, hash}
 use Rattle.race_laws.specs.Standing.{header_in, key_header, IsGone, Exits, Stays}
 use Rattle.race_laws.specs.Chains.{Holder}
 use Rattle.race_laws.specs.Looks.{Reading, Searched, InOrder, PassedBy}
+use Rattle.log_facts.specs.Passings.{searched_before}
 use Rattle.log_facts.specs.Start.{Start}
 use Rattle.pass_text.specs.declared.job.PassMode.{PassMode}
 use Rattle.pass_text.specs.declared.job.PassMode.TheVariants.{Look, Sweep, Walk}
@@ -31,11 +32,6 @@ pub record HeldAt (s : Setting) (key : List ℕ) (from q : Past) (t : ℕ) (h : 
   pub slot : h.at ≡ slot_at t place
   pub word : word_at s.geometry at h.at ≡ h.word
   pub value : pair.value ≡ h.value
-
--- the table that was searched before
-abbrev pub searched_before : Option Searched → Option ℕ
-searched_before None = None
-searched_before (Some x) = Some x.table
 
 -- Clear: looked, or swept with this own slot, down to the table that is told; the table before and the last header are told
 pub record ClearAt (s : Setting) (key : List ℕ) (own : Option ℕ) (from q : Past) (p : Passed) : Type 0 where

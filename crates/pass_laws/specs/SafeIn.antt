@@ -10,13 +10,13 @@ use Rattle.verb_log.specs.declared.kind.Kind.TheVariants.{Drop}
 use Rattle.verb_log.specs.Kinds.{kind}
 use Rattle.pass_text.specs.declared.job.PassMode.{PassMode}
 use Rattle.pass_text.specs.declared.job.PassMode.TheVariants.{Look, Sweep, Walk}
-use Rattle.verb_log.specs.Changes.{changes_by}
 use Rattle.verbs.specs.Programs.{do_verb, ask_hash, Prog, ret, ask}
 use Rattle.verbs.specs.Logs.{place_of}
 use Rattle.race_laws.specs.Setting.{Setting, hash}
 use Rattle.race_laws.specs.Legal.{Meets, Legal}
 use Rattle.log_facts.specs.Among.{ReadsIn}
 use Rattle.log_facts.specs.Beside.{Beside}
+use Rattle.log_facts.specs.Entries.{Unchanging}
 
 -- what a client's own entries are, besides legal
 abbrev pub Rule : Type 1
@@ -43,11 +43,7 @@ SafeBy R s c p (ask (do_verb block verb) k) End =
     (place_of verb < s.geometry.words) × ((q : Past) → Legal s q → Since c p q → MayDoBy R s c q block verb (λ n answer. SafeBy R s c n (k answer) End))
 SafeBy R s c p (ask (ask_hash key) k) End = SafeBy R s c p (k (hash s key)) End
 
--- own entries that change nothing in the map: each of a call but its last, and those of a split
-abbrev pub Unchanging : Setting → ℕ → Past → Entry → Type 0
-Unchanging s c q e = changes_by s.geometry q e (kind s.geometry q e) ≡ []
-
--- and use no lock: those of a call but for its splits
+-- own entries of a call but for its last and its splits: they change nothing in the map and use no lock
 abbrev pub Calmly : Setting → ℕ → Past → Entry → Type 0
 Calmly s c q e = Unchanging s c q e × Beside s c q e
 
