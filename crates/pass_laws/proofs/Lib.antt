@@ -13,5 +13,6 @@ pub mod Searching
 pub mod Sim
 pub mod SameWords
 pub mod SameSeen
+pub mod SameJudging
 pub mod SamePass
 pub mod Whole
