@@ -1,17 +1,14 @@
 -- What is known of a block that a look found held.
-use Rattle.std.specs.Prelude.{◌≡◌, ℕ, ◌/◌, ◌%◌, ◌^◌, ◌<◌, ◌≤◌, ◌==◌, Bool, true, false, cond, List, ◌∷◌, Option, Some, None, refl}
+use Rattle.std.specs.Prelude.{◌≡◌, ℕ, ◌^◌, ◌<◌, true, List, ◌∷◌, Some, refl}
 use Rattle.std.proofs.Common.{sym, ◌∙◌, ap, subst, arith}
-use Rattle.std.proofs.lemmas.Bool.Decides.{nat_tests}
-use Rattle.std.proofs.lemmas.Nat.{div_below, mod_below, pow_pos}
+use Rattle.std.proofs.lemmas.Nat.{div_below}
 use Rattle.slot_word.specs.declared.slots.Mark.{Mark}
 use Rattle.slot_word.specs.declared.slots.Mark.TheVariants.{Live, Copied}
-use Rattle.slot_word.specs.declared.slots.Slot.{Slot}
-use Rattle.slot_word.specs.Slots.{slot_word, slot_of, fields_of}
-use Rattle.slot_word.proofs.SlotLaws.{slot_of-some}
+use Rattle.slot_word.specs.Slots.{slot_word}
 use Rattle.kv_block.specs.Packing.{Pair}
 use Rattle.node_words.specs.Roles.{SlotWord}
 use Rattle.verb_log.specs.declared.entry.Entry.{Entry}
-use Rattle.verb_log.specs.Decoded.{Body, Empty, Full, content, content_of}
+use Rattle.verb_log.specs.Decoded.{Body, Full, content}
 use Rattle.verb_log.specs.Tables.{Past, Before, here, pair_at, role, publishes}
 use Rattle.race_laws.specs.Setting.{Setting, hash, print_of}
 use Rattle.race_laws.specs.Standing.{IsTable, place_in, Word}

@@ -1,5 +1,5 @@
 -- Published blocks last, among others on a legal log.
-use Rattle.std.specs.Prelude.{ℕ, ◌∷◌, ◌+◌, reverse}
+use Rattle.std.specs.Prelude.{ℕ, ◌+◌, reverse}
 use Rattle.std.proofs.Common.{sym, ◌∙◌, subst, arith}
 use Rattle.verb_log.specs.Tables.{here, later}
 use Rattle.verb_log.proofs.InOrder.{reverse_push, replay_index}

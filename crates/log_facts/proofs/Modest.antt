@@ -1,23 +1,21 @@
 -- Entries that name no new block, link no table, store nothing and change no map, by the role of their word; and what they leave
 -- alone: words that were taken and not published.
-use Rattle.std.specs.Prelude.{◌≡◌, ◌≢◌, ℕ, ◌+◌, ◌*◌, ◌^◌, ◌<◌, ◌≤◌, Bool, true, false, cond, not, ◌&&◌, ◌==◌, nat_lt, List, ◌∷◌, ◌++◌, length, Option, Some, None, refl}
+use Rattle.std.specs.Prelude.{◌≡◌, ℕ, ◌+◌, ◌*◌, ◌^◌, ◌<◌, ◌≤◌, Bool, true, false, cond, not, ◌&&◌, ◌==◌, nat_lt, ◌∷◌, Some, refl}
 use Rattle.std.proofs.Common.{sym, ◌∙◌, ap, subst, ⊎_elim}
 use Rattle.slot_word.specs.declared.slots.Mark.{Mark}
 use Rattle.slot_word.specs.declared.slots.Mark.TheVariants.{Live, Pending, Copied, Moved}
-use Rattle.kv_block.specs.Packing.{Pair}
 use Rattle.node_words.specs.Addresses.{node_at, directory_at, header_at, lock_at, slot_at, bucket_header_at}
 use Rattle.node_words.specs.Roles.{SlotWord, HeapWord}
 use Rattle.verb_log.specs.declared.entry.Entry.{Entry}
 use Rattle.verb_log.specs.declared.kind.Kind.{Kind}
 use Rattle.verb_log.specs.declared.kind.Kind.TheVariants.{Take, Store, Place, Replace, Lock, Unlock, Link, Begin, Open, Finish, Close, Ripen, Name, Deepen}
 use Rattle.verb_log.specs.Decoded.{Body, Content, Full, content, Header, PlainAt, SplittingAt, FillingAt, NoHeader, header}
-use Rattle.verb_log.specs.Tables.{Past, Before, word_at, words_at, pair_at, role, is_taken, is_published, publishes, covers, is_address}
+use Rattle.verb_log.specs.Tables.{Past, word_at, role, is_taken, is_published, publishes, covers, is_address}
 use Rattle.verb_log.specs.Kinds.{kind, kind_of_role, only_if, slot_kind, header_kind, bucket_kind, lock_kind}
-use Rattle.verbs.specs.Programs.{Prog, ret}
 use Rattle.race_laws.specs.Setting.{Setting}
 use Rattle.race_laws.specs.Standing.{IsTable, header_in, bucket_in, place_in, birth_in}
 use Rattle.race_laws.specs.Rows.{IsPlace}
-use Rattle.race_laws.specs.Legal.{Meets, Legal}
+use Rattle.race_laws.specs.Legal.{Legal}
 use Rattle.race_laws.proofs.Step.{StepAt, step_of, SlotStep, place, drop, commit, replace, remove, copy, uncopy, flip, settle, clear}
 use Rattle.race_laws.proofs.Touch.{touched}
 use Rattle.race_laws.specs.Named.{Named}
@@ -26,12 +24,12 @@ use Rattle.race_laws.proofs.SoundStep.{sound, sounds, named_at}
 use Rattle.race_laws.proofs.Covers.{covered, covers_none}
 use Rattle.race_laws.proofs.Slots.{slot_is, standing_named, slot_place_of}
 use Rattle.race_laws.proofs.Frames.{header_is, lock_is, bucket_is}
-use Rattle.log_facts.specs.Since.{change_in, Since, same, more}
+use Rattle.log_facts.specs.Since.{change_in}
 use Rattle.log_facts.proofs.Directory.{depth_is, directory_is}
 use Rattle.log_facts.specs.Entries.{is_fresh, uses_fresh, Modest}
 use Rattle.log_facts.proofs.Keeps.{link_kind}
 use Rattle.log_facts.specs.Mine.{Mine}
-use Rattle.log_facts.proofs.Mine.{on_slot_or_child, mine_own, mine_others, mine_heap}
+use Rattle.log_facts.proofs.Mine.{on_slot_or_child, mine_own, mine_heap}
 
 pub fresh_if : (x : Bool) (k : Kind) → is_fresh k ≡ false → uses_fresh (only_if x k) ≡ false
 fresh_if true k h = h

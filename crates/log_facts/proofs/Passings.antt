@@ -1,6 +1,6 @@
 -- The tables that a pass has come through: each is one of the log, a pass may start there, and it is the child of the table before
 -- it; and what was looked for from one position on was looked for from each earlier one. Of every legal log.
-use Rattle.std.specs.Prelude.{◌≡◌, ◌≢◌, ℕ, List, [], ◌∷◌, Option, Some, None, refl}
+use Rattle.std.specs.Prelude.{◌≡◌, ℕ, List, Option, Some, None, refl}
 use Rattle.std.proofs.Common.{sym, ◌∙◌, ap, subst}
 use Rattle.bucket_group.specs.ExitLevel.{exit_level}
 use Rattle.bucket_group.proofs.ExitLaws.{exit-below}

@@ -1,12 +1,12 @@
 -- The Place entries that a client has made since a position.
-use Rattle.std.specs.Prelude.{◌≡◌, ◌≢◌, ℕ, true, ◌∷◌, Some, refl}
-use Rattle.std.proofs.Common.{sym, ◌∙◌, ap, subst, arith}
+use Rattle.std.specs.Prelude.{◌≡◌, ℕ, true, ◌∷◌, Some, refl}
+use Rattle.std.proofs.Common.{sym, ◌∙◌, subst, arith}
 use Rattle.slot_word.specs.declared.slots.Mark.TheVariants.{Pending}
 use Rattle.node_words.specs.Roles.{SlotWord}
 use Rattle.verb_log.specs.declared.entry.Entry.{Entry}
 use Rattle.verb_log.specs.declared.kind.Kind.TheVariants.{Place}
 use Rattle.verb_log.specs.Decoded.{content}
-use Rattle.verb_log.specs.Tables.{Past, Before, here, later, word_at, role, judged_role, publishes}
+use Rattle.verb_log.specs.Tables.{Past, Before, here, later, role, judged_role, publishes}
 use Rattle.verb_log.specs.Kinds.{kind}
 use Rattle.verb_log.proofs.Positions.{Before-trans}
 use Rattle.race_laws.specs.Setting.{Setting}

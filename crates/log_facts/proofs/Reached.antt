@@ -3,7 +3,6 @@ use Rattle.std.specs.Prelude.{◌≡◌, ◌≢◌, ℕ, ◌+◌, ◌*◌, ◌%�
 use Rattle.std.proofs.Common.{sym, ◌∙◌, ap, subst, inl, inr, arith, ⊎_elim}
 use Rattle.std.proofs.lemmas.Bool.{cases_lt}
 use Rattle.std.proofs.lemmas.Nat.{pow_pos, mod_below}
-use Rattle.slot_word.specs.declared.births.Birth.{Birth}
 use Rattle.bucket_group.specs.ExitLevel.{exit_level}
 use Rattle.bucket_group.proofs.ExitLaws.{exit-some, exit-below}
 use Rattle.node_words.specs.Addresses.{first_table}
@@ -19,11 +18,10 @@ use Rattle.race_laws.specs.Legal.{Legal}
 use Rattle.race_laws.proofs.Positions.{legal_before}
 use Rattle.race_laws.proofs.Covers.{table_before}
 use Rattle.race_laws.proofs.SoundStep.{sound}
-use Rattle.race_laws.proofs.Frames.{birth_kept, child_before, bucket_cases}
+use Rattle.race_laws.proofs.Frames.{child_before, bucket_cases}
 use Rattle.race_laws.proofs.Step.{BucketStep, begin, close, ripen_bucket}
-use Rattle.race_laws.proofs.Finality.{deeper_on, bucket_next, bucket_keeps, bucket_gone_before}
+use Rattle.race_laws.proofs.Finality.{deeper_on, bucket_keeps, bucket_gone_before}
 use Rattle.race_laws.proofs.Splits.{new_table}
-use Rattle.race_laws.proofs.TablesStep.{new_level}
 use Rattle.race_laws.proofs.Opening.{splits, opening_head_bucket, opening_birth_depth}
 use Rattle.race_laws.proofs.Chain.{born_at, born_before, first_is_table, chain_table}
 use Rattle.race_laws.proofs.Passes.{in_order_span, passing_span, key_gone, exits_before, exits_later}

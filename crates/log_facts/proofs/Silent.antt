@@ -1,29 +1,18 @@
 -- Entries that publish nothing, and what others keep and such entries of one's own.
-use Rattle.std.specs.Prelude.{[], ◌≡◌, ◌≢◌, ℕ, ◌+◌, ◌*◌, ◌<◌, ◌≤◌, Bool, true, false, not, ◌&&◌, ◌||◌, nat_le, nat_lt, ◌==◌, ◌∷◌, Some, refl}
-use Rattle.std.proofs.Common.{sym, ◌∙◌, ap, subst, arith, ⊎_elim}
-use Rattle.std.proofs.lemmas.Bool.Decides.{nat_tests}
-use Rattle.node_words.specs.Addresses.{node_size, node_of, node_at, table_words}
+use Rattle.std.specs.Prelude.{◌≡◌, ◌≢◌, ℕ, Bool, true, not, ◌&&◌, nat_lt, ◌==◌, ◌∷◌}
+use Rattle.std.proofs.Common.{sym, ◌∙◌, ap, subst}
+use Rattle.node_words.specs.Addresses.{table_words}
 use Rattle.node_words.specs.Roles.{Role, NextWord, DepthWord, DirectoryWord, BirthWord, HeaderWord, LockWord, ReservedWord, ChildWord, BucketWord, SlotWord, HeapWord}
-use Rattle.node_words.proofs.Sizes.{node_ends, node_size_range}
 use Rattle.verb_log.specs.declared.entry.Entry.{Entry}
-use Rattle.verb_log.specs.declared.kind.Kind.TheVariants.{Store, Take}
 use Rattle.verb_log.specs.Decoded.{content}
-use Rattle.verb_log.specs.Tables.{Past, Before, later, word_at, role, is_taken, is_taken_by, moves_across, is_published, publishes, is_among}
-use Rattle.verb_log.specs.Changes.{changes_by}
-use Rattle.verb_log.specs.Kinds.{kind, kind_of_role, only_if}
+use Rattle.verb_log.specs.Tables.{Past, Before, later, role, publishes, is_among}
 use Rattle.race_laws.specs.Setting.{Setting}
-use Rattle.race_laws.specs.Rows.{IsStep}
-use Rattle.race_laws.specs.Legal.{Row, Meets, Legal}
-use Rattle.race_laws.proofs.Touch.{taken_by_someone, or_either}
-use Rattle.race_laws.proofs.Regions.{node_between, node_end}
-use Rattle.race_laws.proofs.Sound.{Sound, next_is}
-use Rattle.race_laws.proofs.SoundStep.{sound}
+use Rattle.race_laws.specs.Legal.{Legal}
 use Rattle.race_laws.proofs.Covers.{covers_none}
 use Rattle.race_laws.proofs.Slots.{content-0}
-use Rattle.log_facts.specs.Since.{change_in, Since, same, more}
-use Rattle.log_facts.proofs.Within.{taken_within}
+use Rattle.log_facts.specs.Since.{Since, same, more}
 use Rattle.log_facts.specs.Mine.{Mine}
-use Rattle.log_facts.proofs.Mine.{mine_others, mine_own, mine_heap}
+use Rattle.log_facts.proofs.Mine.{mine_others, mine_own}
 
 -- an entry that publishes nothing
 abbrev pub Silent : Setting → Past → Entry → Type 0

@@ -1,32 +1,19 @@
 -- What a slot word says, and the fields of one that says a block. Of every word.
-use Rattle.std.specs.Prelude.{◌≡◌, ◌≢◌, ℕ, zero, suc, ◌+◌, ◌-◌, ◌^◌, ◌<◌, ◌≤◌, ◌==◌, false, List, [], ◌∷◌, length, Some, refl}
-use Rattle.std.proofs.Common.{sym, ◌∙◌, ap, subst, arith, get_or, ⊎_elim}
-use Rattle.std.proofs.lemmas.Bool.{cond-true, cond-false, le-leb}
+use Rattle.std.specs.Prelude.{◌≡◌, ℕ, ◌^◌, ◌<◌, ◌≤◌, ◌==◌, false, Some, refl}
+use Rattle.std.proofs.Common.{◌∙◌, ap, subst, arith}
+use Rattle.std.proofs.lemmas.Bool.{cond-false}
 use Rattle.std.proofs.lemmas.Bool.Decides.{nat_tests}
-use Rattle.std.proofs.lemmas.Nat.{div_below}
 use Rattle.slot_word.specs.declared.slots.Mark.{Mark}
 use Rattle.slot_word.specs.declared.slots.Slot.{Slot}
 use Rattle.slot_word.specs.Slots.{IsSlot, slot_word}
 use Rattle.slot_word.proofs.SlotLaws.{slot_of-slot_word, slot_word-some}
-use Rattle.kv_block.specs.Packing.{Pair, IsPair, packed, unpacked}
-use Rattle.kv_block.proofs.Packed.{packed_least, packed_most, unpacked-packed}
-use Rattle.node_words.specs.declared.geometry.Geometry.{Geometry}
-use Rattle.node_words.specs.Addresses.{node_of}
-use Rattle.node_words.proofs.Sizes.{first_free_low}
-use Rattle.verb_log.specs.declared.entry.Entry.{Entry}
 use Rattle.verb_log.specs.Decoded.{Body, Full, content, content_of}
-use Rattle.verb_log.specs.Tables.{Past, word_at, words_at, pair_at}
-use Rattle.verbs.specs.Programs.{Prog}
-use Rattle.std.specs.Prelude.{◌≡◌, ℕ, ◌/◌, ◌%◌, ◌^◌, ◌<◌, ◌≤◌, ◌==◌, Bool, true, false, cond, List, ◌∷◌, Option, Some, None, refl}
-use Rattle.std.proofs.Common.{sym, ◌∙◌, ap, subst, arith}
-use Rattle.std.proofs.lemmas.Nat.{div_below, mod_below, pow_pos}
-use Rattle.slot_word.specs.declared.slots.Mark.TheVariants.{Live, Copied}
+use Rattle.std.specs.Prelude.{◌≡◌, ℕ, ◌/◌, ◌%◌, ◌^◌, ◌<◌, ◌≤◌, ◌==◌, Bool, true, false, cond, Option, Some, None, refl}
+use Rattle.std.proofs.Common.{◌∙◌, ap, subst, arith}
+use Rattle.std.proofs.lemmas.Nat.{mod_below, pow_pos}
 use Rattle.slot_word.specs.Slots.{slot_word, slot_of, fields_of}
 use Rattle.slot_word.proofs.SlotLaws.{slot_of-some}
-use Rattle.kv_block.specs.Packing.{Pair}
-use Rattle.node_words.specs.Roles.{SlotWord}
 use Rattle.verb_log.specs.Decoded.{Body, Empty, Full, content, content_of}
-use Rattle.verb_log.specs.Tables.{Past, Before, here, pair_at, role, publishes}
 
 -- a slot word says what it packs
 pub content_word : (slot : Slot) → IsSlot slot → content (slot_word slot) ≡ Full slot.mark (let b : Body = record { print = slot.fp; length = slot.len; at = slot.at } in b)
@@ -58,4 +45,3 @@ slot_fields w m b e = by (w == 0) e
     by : (v : Bool) → cond v Empty (content_of (slot_of w)) ≡ Full m b → (1 ≤ b.at) × (b.at < 2 ^ 46) × (b.length < 2 ^ 8)
     by true e = absurd (cc)
     by false e = of_slot (slot_of w) refl e
-

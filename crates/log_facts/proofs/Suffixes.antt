@@ -1,27 +1,22 @@
 -- The suffix of a table where a pass may start, and of one where a pass ended, by the depth of its last header. Of every legal log.
-use Rattle.std.specs.Prelude.{◌≡◌, ◌≢◌, ℕ, ◌+◌, ◌-◌, ◌*◌, ◌%◌, ◌^◌, ◌<◌, ◌≤◌, List, [], ◌∷◌, Option, Some, None, refl}
+use Rattle.std.specs.Prelude.{◌≡◌, ◌≢◌, ℕ, ◌+◌, ◌-◌, ◌%◌, ◌^◌, ◌<◌, ◌≤◌, List, Option, Some, None, refl}
 use Rattle.std.proofs.Common.{sym, ◌∙◌, ap, subst, arith, ⊎_elim}
 use Rattle.std.proofs.lemmas.Bool.{cases_lt}
 use Rattle.slot_word.specs.declared.births.Birth.{Birth}
 use Rattle.bucket_group.specs.ExitLevel.{bit_of, exit_level}
 use Rattle.bucket_group.proofs.ExitLaws.{exit-some, exit-none, exit-below, exit_suffix, low_same}
-use Rattle.verb_log.specs.Decoded.{Header, PlainAt, SplittingAt, FillingAt, NoHeader, header}
+use Rattle.verb_log.specs.Decoded.{Header, PlainAt, SplittingAt, FillingAt, NoHeader}
 use Rattle.verb_log.specs.Tables.{Past, Before}
 use Rattle.race_laws.specs.Setting.{Setting, hash, main_of}
-use Rattle.race_laws.specs.Standing.{IsTable, birth_in, bucket_in, key_header, depth, IsGone, Stays}
+use Rattle.race_laws.specs.Standing.{IsTable, birth_in, key_header, depth, IsGone, Stays}
 use Rattle.race_laws.specs.Chains as chains
 use Rattle.race_laws.specs.Chains.{OnChain}
 use Rattle.race_laws.specs.Legal.{Legal}
 use Rattle.node_words.specs.Addresses.{first_table}
 use Rattle.std.proofs.lemmas.Nat.{pow_pos, mod_below}
 use Rattle.race_laws.proofs.Positions.{legal_before}
-use Rattle.race_laws.proofs.Step.{BucketStep, begin, close, ripen_bucket}
-use Rattle.race_laws.proofs.SoundStep.{sound}
-use Rattle.race_laws.proofs.Frames.{birth_kept, birth_before, bucket_cases}
-use Rattle.race_laws.proofs.Finality.{deeper_on, bucket_next}
-use Rattle.race_laws.proofs.Splits.{new_table, new_bucket}
-use Rattle.race_laws.proofs.TablesStep.{new_level}
-use Rattle.race_laws.proofs.Opening.{splits, opening_head_bucket, opening_birth_depth}
+use Rattle.race_laws.proofs.Frames.{birth_before}
+use Rattle.race_laws.proofs.Opening.{splits}
 use Rattle.race_laws.proofs.Covers.{table_before}
 use Rattle.race_laws.proofs.Chain.{born_at, chain_table}
 use Rattle.log_facts.specs.Start.{Start, on_chain, below}

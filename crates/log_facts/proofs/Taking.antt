@@ -1,14 +1,13 @@
 -- A take and a store of one's own words may follow, and what they leave.
-use Rattle.std.specs.Prelude.{[], ◌≡◌, ◌≢◌, ℕ, ◌+◌, ◌*◌, ◌<◌, ◌≤◌, Bool, true, false, not, ◌&&◌, ◌||◌, nat_le, nat_lt, ◌==◌, ◌∷◌, Some, refl}
+use Rattle.std.specs.Prelude.{[], ◌≡◌, ℕ, ◌+◌, ◌*◌, ◌<◌, ◌≤◌, Bool, true, false, not, ◌&&◌, ◌||◌, nat_le, nat_lt, ◌==◌, ◌∷◌, Some, refl}
 use Rattle.std.proofs.Common.{sym, ◌∙◌, ap, subst, arith, ⊎_elim}
 use Rattle.std.proofs.lemmas.Bool.Decides.{nat_tests}
-use Rattle.node_words.specs.Addresses.{node_size, node_of, node_at, table_words}
-use Rattle.node_words.specs.Roles.{Role, NextWord, DepthWord, DirectoryWord, BirthWord, HeaderWord, LockWord, ReservedWord, ChildWord, BucketWord, SlotWord, HeapWord}
+use Rattle.node_words.specs.Addresses.{node_size, node_of, node_at}
+use Rattle.node_words.specs.Roles.{NextWord, HeapWord}
 use Rattle.node_words.proofs.Sizes.{node_ends, node_size_range, node_of-div, node_at-div}
 use Rattle.verb_log.specs.declared.entry.Entry.{Entry}
 use Rattle.verb_log.specs.declared.kind.Kind.TheVariants.{Store, Take}
-use Rattle.verb_log.specs.Decoded.{content}
-use Rattle.verb_log.specs.Tables.{Past, Before, later, word_at, role, is_taken, is_taken_by, moves_across, is_published, publishes, is_among, judged_role}
+use Rattle.verb_log.specs.Tables.{Past, word_at, role, is_taken, is_taken_by, moves_across, is_published, publishes, judged_role}
 use Rattle.verb_log.specs.Changes.{changes_by}
 use Rattle.verb_log.specs.Kinds.{kind, kind_of_role, only_if}
 use Rattle.race_laws.specs.Setting.{Setting}
@@ -18,12 +17,10 @@ use Rattle.race_laws.proofs.Touch.{taken_by_someone, or_either}
 use Rattle.race_laws.proofs.Regions.{node_between, node_end}
 use Rattle.race_laws.proofs.Sound.{judged_is, Sound, next_is}
 use Rattle.race_laws.proofs.SoundStep.{sound}
-use Rattle.race_laws.proofs.Covers.{covers_none}
-use Rattle.race_laws.proofs.Slots.{content-0}
-use Rattle.log_facts.specs.Since.{change_in, Since, same, more}
+use Rattle.log_facts.specs.Since.{change_in}
 use Rattle.log_facts.proofs.Within.{taken_within}
 use Rattle.log_facts.specs.Mine.{Mine}
-use Rattle.log_facts.proofs.Mine.{mine_others, mine_own, mine_heap}
+use Rattle.log_facts.proofs.Mine.{mine_heap}
 use Rattle.log_facts.proofs.Silent.{Silent, role_silent}
 
 pub take_low : (s : Setting) (k : ℕ) → k < s.geometry.nodes → node_at s.geometry k < s.geometry.words

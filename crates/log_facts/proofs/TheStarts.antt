@@ -1,5 +1,4 @@
 -- The laws of starts, of logs in order.
-use Rattle.std.specs.Prelude.{◌%◌, ◌^◌}
 use Rattle.verb_log.proofs.Positions.{Before-take, Before-prefix}
 use Rattle.race_laws.specs.Chains as chains
 use Rattle.race_laws.proofs.Positions.{legal_before}

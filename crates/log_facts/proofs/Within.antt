@@ -1,8 +1,7 @@
 -- The words of a table and of a named block are words of the memory, and those of a named block never change.
-use Rattle.std.specs.Prelude.{◌≡◌, ℕ, zero, suc, ◌+◌, ◌*◌, ◌/◌, ◌<◌, ◌≤◌, Bool, true, false, cond, nat_le, ◌%◌, ◌^◌, List, length, Some, None, refl}
+use Rattle.std.specs.Prelude.{◌≡◌, ℕ, ◌+◌, ◌*◌, ◌/◌, ◌<◌, ◌≤◌, ◌%◌, ◌^◌, List, length, Some, refl}
 use Rattle.std.proofs.Common.{subst, ◌∙◌, ap, arith, ⊎_elim}
-use Rattle.std.proofs.lemmas.Bool.Decides.{nat_tests}
-use Rattle.kv_block.specs.Packing.{Pair, packed, unpacked}
+use Rattle.kv_block.specs.Packing.{Pair, packed}
 use Rattle.kv_block.proofs.Packed.{packed_most, IsPair-from_unpacked, packed_of_unpacked}
 use Rattle.node_words.specs.declared.geometry.Geometry.{Geometry}
 use Rattle.node_words.specs.Addresses.{header_at, birth_at, child_at, slot_at, bucket_header_at, node_of, node_at, table_words, first_free}
@@ -10,7 +9,7 @@ use Rattle.node_words.proofs.Sizes.{node_ends}
 use Rattle.node_words.proofs.FirstTables.{IsInFirst, first_in_words}
 use Rattle.verb_log.specs.Decoded.{Body}
 use Rattle.verb_log.proofs.BlockWords.{length-words_at, pair_unpacked}
-use Rattle.verb_log.specs.Tables.{Past, Before, here, later, word_at, words_at, pair_at}
+use Rattle.verb_log.specs.Tables.{Past, word_at, words_at, pair_at}
 use Rattle.race_laws.specs.Setting.{Setting}
 use Rattle.race_laws.specs.Standing.{IsTable}
 use Rattle.race_laws.specs.Rows.{IsPlace}

@@ -1,30 +1,25 @@
 -- A block that a client has taken and written, kept by the entries of others; and the slot words that name it.
-use Rattle.std.specs.Prelude.{◌≡◌, ◌≢◌, ℕ, zero, suc, ◌+◌, ◌-◌, ◌^◌, ◌<◌, ◌≤◌, ◌==◌, false, List, [], ◌∷◌, length, Some, refl}
-use Rattle.std.proofs.Common.{sym, ◌∙◌, ap, subst, arith, get_or, ⊎_elim}
-use Rattle.std.proofs.lemmas.Bool.{cond-true, cond-false, le-leb}
-use Rattle.std.proofs.lemmas.Bool.Decides.{nat_tests}
+use Rattle.std.specs.Prelude.{◌≡◌, ◌≢◌, ℕ, zero, suc, ◌+◌, ◌-◌, ◌^◌, ◌<◌, ◌≤◌, List, [], ◌∷◌, length, Some, refl}
+use Rattle.std.proofs.Common.{sym, ◌∙◌, ap, arith, get_or}
+use Rattle.std.proofs.lemmas.Bool.{cond-true, le-leb}
 use Rattle.std.proofs.lemmas.Nat.{div_below}
 use Rattle.slot_word.specs.declared.slots.Mark.{Mark}
-use Rattle.slot_word.specs.declared.slots.Slot.{Slot}
 use Rattle.slot_word.specs.Slots.{IsSlot, slot_word}
-use Rattle.slot_word.proofs.SlotLaws.{slot_of-slot_word, slot_word-some}
 use Rattle.kv_block.specs.Packing.{Pair, IsPair, packed, unpacked}
 use Rattle.kv_block.proofs.Packed.{packed_least, packed_most, unpacked-packed}
 use Rattle.node_words.specs.declared.geometry.Geometry.{Geometry}
 use Rattle.node_words.specs.Addresses.{node_of}
 use Rattle.node_words.proofs.Sizes.{first_free_low}
 use Rattle.verb_log.specs.declared.entry.Entry.{Entry}
-use Rattle.verb_log.specs.Decoded.{Body, Full, content, content_of}
+use Rattle.verb_log.specs.Decoded.{Body, Full, content}
 use Rattle.verb_log.specs.Tables.{Past, word_at, words_at, pair_at}
 use Rattle.race_laws.specs.Setting.{Setting, hash, print_of}
 use Rattle.race_laws.specs.Legal.{Legal}
 use Rattle.race_laws.proofs.Regions.{base_low}
-use Rattle.race_laws.proofs.Touch.{word_put, word_kept, taken_by_someone, same_or_not}
+use Rattle.race_laws.proofs.Touch.{taken_by_someone}
 use Rattle.race_laws.proofs.SoundStep.{sound}
-use Rattle.verbs.specs.Programs.{Prog}
-use Rattle.log_facts.specs.Since.{change_in, Since, same, more}
-use Rattle.log_facts.specs.Mine.{Mine, Block}
-use Rattle.log_facts.proofs.Mine.{mine_others, mine_word, mine_heap}
+use Rattle.log_facts.specs.Mine.{Block}
+use Rattle.log_facts.proofs.Mine.{mine_others, mine_word}
 use Rattle.log_facts.proofs.Taking.{mine_within}
 use Rattle.log_facts.proofs.SlotWords.{content_word}
 

@@ -1,5 +1,5 @@
 -- The words that a client has taken: its area, and a block that it has written and not placed.
-use Rattle.std.specs.Prelude.{◌≡◌, ℕ, ◌+◌, ◌<◌, ◌≤◌, List, length}
+use Rattle.std.specs.Prelude.{◌≡◌, ℕ, List, length}
 use Rattle.node_words.specs.declared.geometry.Geometry.{Geometry}
 use Rattle.verb_log.specs.Tables.{Past, words_at}
 use Rattle.race_laws.specs.Setting.{Setting}

@@ -1,17 +1,15 @@
 -- Safe newest first is safe in order.
-use Rattle.std.specs.Prelude.{◌≡◌, ℕ, ◌<◌, List, [], ◌∷◌, ◌++◌, reverse, Option, Some, None}
-use Rattle.std.proofs.Common.{sym, ◌∙◌, ap, subst, append-nil, append_assoc}
-use Rattle.node_words.specs.declared.geometry.Geometry.{Geometry}
+use Rattle.std.specs.Prelude.{ℕ, ◌<◌, List, [], ◌∷◌, ◌++◌, reverse, Option, Some, None}
+use Rattle.std.proofs.Common.{sym, ◌∙◌, ap, subst, append-nil}
 use Rattle.verb_log.specs.declared.entry.Entry.{Entry}
 use Rattle.verb_log.specs.declared.entry.Verb.{Verb}
 use Rattle.verb_log.specs.declared.entry.Verb.TheVariants.{Read, Write, Swap}
 use Rattle.kv_block.specs.declared.changes.Change.{Change}
 use Rattle.verb_log.specs.Changes.{changes}
-use Rattle.verb_log.specs.Tables.{Past, Before, here, later, word_at}
+use Rattle.verb_log.specs.Tables.{Past, word_at}
 use Rattle.verb_log.proofs.InOrder.{reverse_push, replay_index}
-use Rattle.verbs.specs.Programs.{do_verb, ask_hash, Prog, ret, ask, bind}
-use Rattle.verbs.specs.Logs as logs
-use Rattle.verbs.specs.Logs.{Entries, word, change, place_of, GoesOn, MayStand, Longer, Lengthened}
+use Rattle.verbs.specs.Programs.{do_verb, ask_hash, Prog, ret, ask}
+use Rattle.verbs.specs.Logs.{Entries, word, change, place_of}
 use Rattle.verbs.specs.Terms.{May, MayDo}
 use Rattle.verbs.specs.Safe.{Safe}
 use Rattle.verbs.specs.Calls.{follows_quietly}
@@ -19,7 +17,7 @@ use Rattle.race_laws.specs.Setting.{Setting, hash}
 use Rattle.race_laws.specs.Legal.{Meets}
 use Rattle.log_facts.proofs.Growing.{stands_legal, longer_since, change_same}
 use Rattle.log_facts.specs.Among.{among, changes_of, quiet_among}
-use Rattle.log_facts.specs.Since.{change_in, Since, same, more}
+use Rattle.log_facts.specs.Since.{change_in}
 use Rattle.log_facts.specs.Entries.{Unchanging}
 use Rattle.pass_laws.specs.SafeIn.{Rule, MayBy, MayDoBy, SafeBy, Calmly, SafeIn}
 
@@ -57,4 +55,3 @@ module _ (R : Rule) (s : Setting) (c : ℕ) (still : (q : Past) (e : Entry) → 
 
 pub safe_in_order : {A : Type 0} (s : Setting) (c : ℕ) (l : Entries) (p : Prog A) (End : Past → A → Type 0) → SafeIn s c (reverse l) p End → Safe (quiet_among s c) (hash s) l p (λ m a. End (reverse m) a)
 safe_in_order s c l p End h = by_quiet Calmly s c (λ q e r. r.0) l p End h
-

@@ -1,48 +1,10 @@
 -- What a header shows of a level, as the text tests it; and what a test leaves of a list.
-use Rattle.std.specs.Prelude.{◌≡◌, ◌≢◌, ℕ, zero, suc, ◌+◌, ◌*◌, ◌/◌, ◌%◌, ◌<◌, ◌≤◌, Bool, true, false, cond, nat_lt, nat_le, ◌&&◌, List, [], ◌∷◌, filter, Option, Some, None, refl}
-use Rattle.std.proofs.Common.{sym, ◌∙◌, ap, subst, inl, inr, arith, ⊎_elim}
-use Rattle.std.proofs.lemmas.Bool.{cases_lt}
+use Rattle.std.specs.Prelude.{◌≡◌, ℕ, ◌<◌, ◌≤◌, Bool, true, false, cond, nat_lt, nat_le, List, [], ◌∷◌, filter, Option, Some, None, refl}
+use Rattle.std.proofs.Common.{subst, inl, inr, arith, ⊎_elim}
 use Rattle.std.proofs.lemmas.Bool.Decides.{nat_tests}
-use Rattle.slot_word.specs.declared.births.Birth.{Birth}
-use Rattle.kv_block.specs.Bytes.{AreBytes}
-use Rattle.bucket_group.specs.ExitLevel.{exit_level}
-use Rattle.bucket_group.proofs.ExitLaws.{exit-some, exit-below}
-use Rattle.node_words.specs.Addresses.{table_words, first_free, birth_at, header_at, child_at, slot_at, bucket_header_at}
-use Rattle.verb_log.specs.declared.entry.Verb.TheVariants.{Read}
 use Rattle.verb_log.specs.Decoded.{Header, PlainAt, SplittingAt, FillingAt, NoHeader}
-use Rattle.verb_log.specs.Tables.{Past, Before, here, word_at, table_of}
-use Rattle.verb_log.proofs.Positions.{Before-trans}
-use Rattle.verbs.specs.Programs.{do_verb, Prog, ret, ask}
-use Rattle.race_laws.specs.Setting.{Setting, hash, places, main_of}
-use Rattle.race_laws.specs.Standing.{IsTable, header_in, birth_in, child_in, key_header, IsFilling, IsGone, Exits, Stays, IsIn}
-use Rattle.race_laws.specs.Chains.{OnChain}
-use Rattle.race_laws.specs.Looks.{Reading, Searched, InOrder, is_other, read_places, Misses, Passing, begins, goes_on, HasOwn}
-use Rattle.race_laws.specs.Rows.{IsPlace}
-use Rattle.race_laws.specs.Legal.{Legal}
-use Rattle.race_laws.proofs.Positions.{legal_before}
-use Rattle.race_laws.proofs.Touch.{same_or_not}
-use Rattle.race_laws.proofs.SoundStep.{sound}
-use Rattle.race_laws.proofs.Covers.{table_before}
-use Rattle.race_laws.proofs.Slots.{slot_is, slot_place_of}
-use Rattle.race_laws.proofs.Frames.{birth_before, child_before}
-use Rattle.race_laws.proofs.Finality.{ripe_before}
-use Rattle.race_laws.proofs.Opening.{splits}
-use Rattle.race_laws.proofs.Chain.{born_at, born_before, chain_table, chain_before, chain_same, way_down}
-use Rattle.race_laws.proofs.Passes.{in_order_span, passing_span, key_gone}
-use Rattle.pass_laws.proofs.ListPass.{Mode, look, sweep, walk, Shown, Seen, table_before as text_before, clear, gone, Ended, own_of, has_own, shows_gone, exit_by, places_for, by_header, search_table, search_from, by_start}
-use Rattle.pass_text.specs.Words.{address_of}
-use Rattle.log_facts.specs.Start.{Start, on_chain, below}
-use Rattle.pass_laws.proofs.ListEnd.{Reads, Saw, ClearAt, IsSweep, IsOwn, ClearsSo, PassEnd, Dropping, SafeDrops}
-use Rattle.log_facts.proofs.Growing.{since_before}
-use Rattle.log_facts.proofs.Within.{bucket_low, child_low, header_low, birth_low}
-use Rattle.pass_laws.proofs.TableAddress.{table_address}
-use Rattle.log_facts.proofs.Keys.{main_below}
-use Rattle.log_facts.proofs.Heads.{gone_child, bucket_valid}
-use Rattle.log_facts.proofs.Starts.{start_table, start_before, start_ripe, start_on, Above, start_above, low_born}
-use Rattle.pass_laws.proofs.Seen.{in_order_to, PrevSaw, before_same_table}
-use Rattle.pass_laws.proofs.Rules.{by_cond}
-use Rattle.pass_laws.proofs.Judging.{aim_of}
-use Rattle.pass_laws.proofs.Scanning.{scan_safe}
+use Rattle.race_laws.specs.Standing.{IsGone, IsIn}
+use Rattle.pass_laws.proofs.ListPass.{shows_gone, exit_by}
 
 -- what a header shows
 pub gone_test : (h : Header) (i : ℕ) → shows_gone h i ≡ true → IsGone h i

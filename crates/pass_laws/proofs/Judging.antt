@@ -1,5 +1,5 @@
 -- A word of a candidate slot is judged.
-use Rattle.std.specs.Prelude.{◌≡◌, ◌≢◌, ℕ, zero, suc, ◌+◌, ◌*◌, ◌<◌, ◌≤◌, Bool, true, false, cond, ◌&&◌, nat_le, ◌==◌, List, ◌∷◌, Option, Some, None, ◌⊎◌, refl}
+use Rattle.std.specs.Prelude.{◌≡◌, ◌≢◌, ℕ, zero, suc, ◌≤◌, Bool, true, false, cond, ◌&&◌, nat_le, ◌==◌, List, ◌∷◌, Option, Some, None, ◌⊎◌, refl}
 use Rattle.std.proofs.Common.{sym, ◌∙◌, ap, subst, inr, arith, ⊎_elim}
 use Rattle.std.proofs.lemmas.Bool.Decides.{nat_tests}
 use Rattle.slot_word.specs.declared.slots.Mark.{Mark}
@@ -7,7 +7,7 @@ use Rattle.slot_word.specs.declared.slots.Mark.TheVariants.{Live, Pending, Copie
 use Rattle.slot_word.specs.declared.births.Birth.{Birth}
 use Rattle.kv_block.specs.Packing.{Pair}
 use Rattle.bucket_group.specs.Buckets.{fingerprint_of}
-use Rattle.node_words.specs.Addresses.{table_words, slot_at}
+use Rattle.node_words.specs.Addresses.{slot_at}
 use Rattle.verb_log.specs.declared.entry.Entry.{Entry}
 use Rattle.verb_log.specs.declared.entry.Verb.TheVariants.{Swap}
 use Rattle.verb_log.specs.Decoded.{Body, Content, Empty, Full, NoSlot, content}
@@ -19,7 +19,7 @@ use Rattle.verbs.specs.Programs.{do_verb, Prog, ret, ask}
 use Rattle.race_laws.specs.Setting.{Setting, hash, places, print_of}
 use Rattle.race_laws.specs.Standing.{IsTable, place_in, Word, IsIn}
 use Rattle.race_laws.specs.Chains.{IsCandidate, Holder, live}
-use Rattle.race_laws.specs.Looks.{Reading, Searched, InOrder, Answers, IsMiss, Passing, begins, goes_on}
+use Rattle.race_laws.specs.Looks.{Searched, InOrder, Answers, IsMiss, Passing}
 use Rattle.race_laws.specs.Rows.{IsPlace}
 use Rattle.race_laws.specs.Legal.{SlotRow, Row, Meets, Legal}
 use Rattle.race_laws.proofs.Positions.{legal_before}
@@ -28,14 +28,9 @@ use Rattle.race_laws.proofs.Covers.{table_before}
 use Rattle.race_laws.proofs.Slots.{slot_is, standing_named, full_same, content-0}
 use Rattle.race_laws.proofs.Touch.{word_put}
 use Rattle.race_laws.proofs.Frames.{birth_before}
-use Rattle.race_laws.proofs.Opening.{splits}
-use Rattle.race_laws.proofs.Chain.{chain_table, born_at}
 use Rattle.race_laws.proofs.Passes.{in_order_span, passing_span}
-use Rattle.race_laws.proofs.Tracks.{in_order_between, reading_stands}
 use Rattle.race_laws.proofs.Candidates.{word_candidate}
-use Rattle.race_laws.proofs.Homes.{parent_of}
 use Rattle.race_laws.proofs.Presence.{candidate_place, copy_present}
-use Rattle.bucket_group.proofs.ExitLaws.{exit-below}
 use Rattle.log_facts.specs.Since.{change_in}
 use Rattle.pass_laws.specs.SafeIn.{MayBy}
 use Rattle.pass_laws.proofs.ListPass.{Aim, Mode, look, sweep, walk, Seen, held, Ended, answers, own_of, judge_pending, judge_mark, judge_content, judge}
@@ -47,7 +42,7 @@ use Rattle.log_facts.proofs.Growing.{since_before}
 use Rattle.log_facts.proofs.Within.{block_length, slot_within}
 use Rattle.log_facts.proofs.Prints.{prints}
 use Rattle.log_facts.proofs.Starts.{start_before}
-use Rattle.log_facts.proofs.Passings.{Behind, passing_table, passing_behind}
+use Rattle.log_facts.proofs.Passings.{passing_table, passing_behind}
 use Rattle.pass_laws.proofs.Seen.{PrevSaw, answering, not_answering}
 use Rattle.pass_laws.proofs.Rules.{by_cond}
 use Rattle.pass_laws.proofs.Blocks.{by_block}

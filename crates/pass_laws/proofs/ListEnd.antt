@@ -8,9 +8,7 @@ use Rattle.verb_log.specs.Tables.{Past, Before, word_at}
 use Rattle.race_laws.specs.Setting.{Setting, hash}
 use Rattle.race_laws.specs.Standing.{key_header, IsGone, Exits, Stays}
 use Rattle.race_laws.specs.Chains.{Holder}
-use Rattle.race_laws.specs.Chains.{OnChain}
-use Rattle.race_laws.specs.Rows.{IsPlace}
-use Rattle.race_laws.specs.Looks.{Reading, Searched, InOrder, PassedBy}
+use Rattle.race_laws.specs.Looks.{Reading, InOrder, PassedBy}
 use Rattle.verb_log.specs.declared.kind.Kind.TheVariants.{Drop}
 use Rattle.verb_log.specs.Kinds.{kind}
 use Rattle.verbs.specs.Programs.{Prog}

@@ -1,13 +1,13 @@
 -- The pass once more, over lists of candidates and of the words read there, in the form in which its legality is proved. It does
 -- the same acts as the text (proofs/SamePass).
-use Rattle.std.specs.Prelude.{ℕ, zero, suc, ◌+◌, ◌%◌, ◌^◌, Bool, false, cond, ◌&&◌, ◌||◌, nat_lt, nat_le, min, ◌==◌, List, [], ◌∷◌, ◌++◌, filter, Option, Some, None}
+use Rattle.std.specs.Prelude.{ℕ, zero, suc, ◌+◌, Bool, false, cond, ◌&&◌, ◌||◌, nat_lt, nat_le, ◌==◌, List, [], ◌∷◌, ◌++◌, filter, Option, Some, None}
 use Rattle.slot_word.specs.declared.slots.Mark.{Mark}
 use Rattle.slot_word.specs.declared.slots.Mark.TheVariants.{Live, Pending, Copied, Moved}
 use Rattle.kv_block.specs.Reading.{has_key, block_value}
 use Rattle.bucket_group.specs.ExitLevel.{exit_level}
 use Rattle.bucket_group.specs.Buckets.{candidates, first_bucket, fingerprint_of}
 use Rattle.node_words.specs.declared.geometry.Geometry.{Geometry}
-use Rattle.node_words.specs.Addresses.{table_words, first_free, directory_at, header_at, birth_at, child_at, slot_at, bucket_header_at}
+use Rattle.node_words.specs.Addresses.{table_words, first_free, birth_at, child_at, slot_at, bucket_header_at}
 use Rattle.verb_log.specs.declared.entry.Verb.TheVariants.{Read, Swap}
 use Rattle.verb_log.specs.Decoded.{Body, Content, Empty, Full, NoSlot, content, Header, PlainAt, SplittingAt, FillingAt, NoHeader, header, birth}
 use Rattle.verb_log.specs.Kinds.{same_body}

@@ -1,24 +1,14 @@
 -- Safe programs by any rule of own entries: one after another, choices, reading a block, a weaker rule, and what is kept.
-use Rattle.std.specs.Prelude.{◌≡◌, ◌≢◌, ℕ, zero, suc, ◌+◌, ◌-◌, ◌≤◌, Bool, true, false, cond, List, [], ◌∷◌, ◌++◌, Option, Some, None, refl}
-use Rattle.std.proofs.Common.{sym, ◌∙◌, ap, subst, arith, append_assoc, append-nil}
-use Rattle.kv_block.specs.Packing.{Pair}
+use Rattle.std.specs.Prelude.{◌≡◌, ◌≢◌, ℕ, Bool, true, false, cond, ◌∷◌, Option, Some, None, refl}
 use Rattle.verb_log.specs.declared.entry.Entry.{Entry}
 use Rattle.verb_log.specs.declared.entry.Verb.{Verb}
 use Rattle.verb_log.specs.declared.entry.Verb.TheVariants.{Read, Write, Swap}
-use Rattle.verb_log.specs.Decoded.{Body}
-use Rattle.verb_log.specs.Tables.{Past, Before, word_at, words_at, pair_at}
-use Rattle.verb_log.proofs.Positions.{Before-trans}
+use Rattle.verb_log.specs.Tables.{Past, word_at}
 use Rattle.verbs.specs.Programs.{do_verb, ask_hash, Prog, ret, ask, bind}
 use Rattle.race_laws.specs.Setting.{Setting, hash}
 use Rattle.race_laws.specs.Legal.{Legal}
-use Rattle.race_laws.specs.Named.{Named}
-use Rattle.log_facts.specs.Among.{ReadsIn}
 use Rattle.log_facts.specs.Since.{change_in, Since, same, more}
 use Rattle.pass_laws.specs.SafeIn.{Rule, MayBy, MayDoBy, SafeBy}
-use Rattle.race_laws.proofs.SoundStep.{named_at}
-use Rattle.log_facts.proofs.Growing.{since_before, since_trans}
-use Rattle.verb_log.proofs.BlockWords.{pair_within}
-use Rattle.race_laws.proofs.Published.{word_later}
 
 module _ (R : Rule) (s : Setting) (c : ℕ) where
   -- what may be done may be done as a verb alone
@@ -77,4 +67,3 @@ module _ (R : Rule) (s : Setting) (c : ℕ) where
     pub by_cond : (q : Past) (test : Bool) (x y : Prog A) → (test ≡ true → SafeBy R s c q x End) → (test ≡ false → SafeBy R s c q y End) → SafeBy R s c q (cond test x y) End
     by_cond q true x y f h = f refl
     by_cond q false x y f h = h refl
-

@@ -1,44 +1,30 @@
 -- A word is judged in the same way by the text and by the pass over lists.
-use Rattle.std.specs.Prelude.{◌≡◌, ◌≢◌, ℕ, zero, suc, ◌+◌, ◌-◌, ◌*◌, ◌/◌, ◌%◌, ◌^◌, ◌<◌, ◌≤◌, Bool, true, false, cond, not, ◌&&◌, ◌||◌, ◌==◌, nat_lt, nat_le, List, [], ◌∷◌, ◌++◌, length, drop, filter, slice_index, slice_set, replicate, get_or, unwrap_or, Option, Some, None, ◌⊎◌, refl}
-use Rattle.std.proofs.Common.{sym, ◌∙◌, ap, subst, inl, inr, arith, ⊎_elim}
-use Rattle.std.proofs.lemmas.Bool.Decides.{nat_tests}
+use Rattle.std.specs.Prelude.{◌≡◌, ℕ, zero, suc, ◌+◌, ◌<◌, ◌≤◌, Bool, true, false, cond, ◌==◌, List, [], ◌∷◌, ◌++◌, length, slice_set, Option, Some, None, refl}
+use Rattle.std.proofs.Common.{sym, ◌∙◌, ap, subst, arith}
 use Rattle.slot_word.specs.declared.slots.Mark.{Mark}
 use Rattle.slot_word.specs.declared.slots.Mark.TheVariants.{Live, Pending, Copied, Moved}
 use Rattle.slot_word.specs.declared.slots.Slot.{Slot}
-use Rattle.slot_word.specs.declared.heads.Head.{Head}
-use Rattle.slot_word.specs.declared.heads.State.{State}
-use Rattle.slot_word.specs.declared.heads.State.TheVariants.{Plain, Splitting, Filling}
-use Rattle.slot_word.specs.Heads.{head_of}
-use Rattle.slot_word.specs.Slots.{mark_bits, slot_of, slot_word, fields_of}
-use Rattle.slot_word.proofs.SlotLaws.{slot_of-some, slot_word-slot_of}
-use Rattle.std.proofs.lemmas.List.{length-set, length-replicate, get_or-replicate, get_or-set_same, get_or-set_other}
-use Rattle.race_laws.proofs.Touch.{same_or_not}
+use Rattle.slot_word.specs.Slots.{slot_of}
+use Rattle.std.proofs.lemmas.List.{length-set}
 use Rattle.node_words.specs.declared.geometry.Geometry.{Geometry}
-use Rattle.std.proofs.lemmas.Nat.{mod_below, pow_pos, div_below}
 use Rattle.kv_block.specs.Reading.{has_key, block_value}
-use Rattle.bucket_group.specs.ExitLevel.{exit_level}
-use Rattle.bucket_group.specs.Buckets.{candidates, first_bucket, fingerprint_of}
-use Rattle.bucket_group.proofs.CandidateLaws.{length-candidates_two, candidates_apart}
-use Rattle.node_words.specs.Addresses.{table_words, first_free, birth_at, slot_at, bucket_header_at, child_at}
-use Rattle.verb_log.specs.declared.entry.Verb.TheVariants.{Read, Swap}
-use Rattle.verb_log.specs.Decoded.{Body, Content, Empty, Full, NoSlot, content, content_of, Header, NoHeader, header, header_of, header_with, birth}
-use Rattle.verb_log.specs.Kinds.{same_body}
+use Rattle.node_words.specs.Addresses.{slot_at}
+use Rattle.verb_log.specs.declared.entry.Verb.TheVariants.{Swap}
+use Rattle.verb_log.specs.Decoded.{Empty, Full, content, content_of}
 use Rattle.verbs.specs.Programs.{do_verb, Prog, ret, ask}
 use Rattle.pass_text.specs.Words.{level_if_gone, is_gone}
-use Rattle.race_laws.specs.Looks.{is_other}
-use Rattle.pass_laws.proofs.ListPass.{Aim, Mode, look, sweep, walk, Shown, Seen, held, clear, gone, spent, Ended, if_block, read_block, is_moved, shows_moved, answers, table_before, own_of, has_own, exit_by, shows_gone, places_for, judge_pending, judge_mark, judge_content, judge, scan, by_header, search_table, search_from, by_start}
+use Rattle.pass_laws.proofs.ListPass.{Aim, Mode, look, sweep, walk, Shown, Seen, held, Ended, if_block, read_block, answers, judge_pending, judge_mark, judge_content, judge}
 use Rattle.pass_text.specs.declared.job.Job.{Job}
 use Rattle.pass_text.specs.declared.job.PassMode.{PassMode}
 use Rattle.pass_text.specs.declared.job.PassMode.TheVariants.{Look, Sweep, Walk}
 use Rattle.pass_text.specs.declared.passed.Passed.{Passed}
-use Rattle.pass_text.specs.declared.passed.PassEnd.TheVariants.{Clear, Gone, Spent}
+use Rattle.pass_text.specs.declared.passed.PassEnd.TheVariants.{Spent}
 use Rattle.pass_text.specs.declared.job.Opened.{Opened}
 use Rattle.pass_text.specs.Pass as m
 use Rattle.pass_text.specs.Words as w
-use Rattle.std.proofs.Common.{length-append}
-use Rattle.pass_laws.proofs.Sim.{Sim, SameMode, LostSo, FreeFrom, FreeSo, Alike, aim_of}
-use Rattle.pass_laws.proofs.SameWords.{body_of, drop_all, drop_at, form_some, free_clear, free_gone, free_held, free_spent, head_alike, level_same, slot_fits, sweep_look, words_sim}
-use Rattle.pass_laws.proofs.SameSeen.{cands, place, few, near, noted, next_moved, next_free, prior_answers, LeftSo, SpareSo, left_some, left_lost, Rel, R, opened_as, Goes, rel_next}
+use Rattle.pass_laws.proofs.Sim.{Sim, SameMode, LostSo, aim_of}
+use Rattle.pass_laws.proofs.SameWords.{body_of, free_held, free_spent, slot_fits, sweep_look, words_sim}
+use Rattle.pass_laws.proofs.SameSeen.{cands, place, near, noted, next_moved, next_free, prior_answers, LeftSo, SpareSo, left_some, left_lost, Rel, R, opened_as, Goes, rel_next}
 
 module _ (j : Job) (o : Opened) where
   module _ (md : Mode) (left0 : ℕ) (same : SameMode j.mode md left0) where

@@ -14,7 +14,7 @@ use Rattle.race_laws.proofs.Passes.{in_order_span}
 use Rattle.race_laws.proofs.Presence.{candidate_place}
 use Rattle.pass_laws.proofs.ListPass.{Mode, Shown, Seen, Ended, own_of, scan}
 use Rattle.log_facts.specs.Start.{Start}
-use Rattle.pass_laws.proofs.ListEnd.{Reads, Saw, PassEnd, Dropping, SafeDrops}
+use Rattle.pass_laws.proofs.ListEnd.{Reads, Saw, PassEnd, SafeDrops}
 use Rattle.log_facts.proofs.Growing.{since_before}
 use Rattle.log_facts.proofs.Starts.{start_table, start_before}
 use Rattle.pass_laws.proofs.Seen.{saw_push, in_order_push, all_miss_push, places_push, PrevSaw}

@@ -1,5 +1,5 @@
 -- Two programs that do the same acts whatever is answered; and how the ends of the text and of the pass over lists agree.
-use Rattle.std.specs.Prelude.{◌≡◌, ℕ, ◌+◌, ◌<◌, ◌≤◌, ◌==◌, Bool, false, List, [], ◌∷◌, get_or, Option, Some, ◌⊎◌}
+use Rattle.std.specs.Prelude.{◌≡◌, ℕ, ◌+◌, ◌≤◌, ◌==◌, Bool, false, List, [], ◌∷◌, get_or, Some, ◌⊎◌}
 use Rattle.std.proofs.Common.{sym, subst}
 use Rattle.bucket_group.specs.Buckets.{candidates}
 use Rattle.node_words.specs.Addresses.{slot_at}
@@ -14,7 +14,7 @@ use Rattle.pass_text.specs.declared.job.PassMode.TheVariants.{Look, Sweep, Walk}
 use Rattle.pass_text.specs.declared.passed.Passed.{Passed}
 use Rattle.pass_text.specs.declared.passed.PassEnd.TheVariants.{Held, Clear, Gone, Spent}
 use Rattle.pass_text.specs.Pass.{opened_at}
-use Rattle.pass_laws.specs.SafeIn.{Rule, SafeBy, MayDoBy}
+use Rattle.pass_laws.specs.SafeIn.{Rule, SafeBy}
 use Rattle.pass_laws.proofs.Rules.{by_do_map}
 use Rattle.pass_laws.proofs.ListPass.{Aim, Mode, look, sweep, walk, Shown, How, held, clear, gone, spent, Ended}
 

@@ -1,5 +1,5 @@
 -- A whole pass, by the text.
-use Rattle.std.specs.Prelude.{◌≡◌, ◌≢◌, ℕ, ◌+◌, ◌%◌, ◌^◌, ◌<◌, ◌≤◌, Bool, true, false, cond, ◌==◌, min, List, [], ◌∷◌, get_or, reverse, Option, Some, None, ◌⊎◌, refl}
+use Rattle.std.specs.Prelude.{◌≡◌, ◌≢◌, ℕ, ◌+◌, ◌%◌, ◌^◌, ◌<◌, ◌≤◌, Bool, true, false, cond, ◌==◌, min, List, [], ◌∷◌, reverse, Option, Some, None, refl}
 use Rattle.std.proofs.Common.{sym, ◌∙◌, ap, subst, arith, ⊎_elim}
 use Rattle.std.proofs.lemmas.Nat.{pow_pos, mod_below}
 use Rattle.std.proofs.lemmas.Bool.Decides.{nat_tests}
@@ -14,14 +14,12 @@ use Rattle.verb_log.specs.Tables.{Past, Before, here, later, word_at}
 use Rattle.verb_log.proofs.Positions.{Before-trans}
 use Rattle.verbs.specs.Programs.{do_verb, ask}
 use Rattle.race_laws.specs.Setting.{Setting, hash}
-use Rattle.race_laws.specs.Standing.{header_in, key_header, Stays, IsGone}
-use Rattle.race_laws.specs.Chains.{OnChain}
+use Rattle.race_laws.specs.Standing.{header_in, Stays, IsGone}
 use Rattle.race_laws.specs.Looks.{Reading}
 use Rattle.race_laws.specs.Legal.{Legal}
 use Rattle.race_laws.proofs.SoundStep.{sound}
 use Rattle.race_laws.proofs.Opening.{splits}
 use Rattle.race_laws.proofs.Chain.{chain_table}
-use Rattle.log_facts.specs.Since.{Since}
 use Rattle.log_facts.specs.Passings.{searched_before}
 use Rattle.log_facts.specs.Start.{Start, on_chain}
 use Rattle.log_facts.proofs.Growing.{since_before}
@@ -33,7 +31,6 @@ use Rattle.pass_text.specs.declared.job.Opened.{Opened}
 use Rattle.pass_text.specs.declared.job.PassMode.{PassMode}
 use Rattle.pass_text.specs.declared.job.PassMode.TheVariants.{Look, Sweep, Walk}
 use Rattle.pass_text.specs.declared.passed.Passed.{Passed}
-use Rattle.pass_text.specs.declared.passed.PassEnd.TheVariants.{Held, Clear, Gone, Spent}
 use Rattle.pass_text.specs.Words.{address_of, head_in, directory_word}
 use Rattle.pass_text.specs.Pass.{opened_at, on_header, at_table, pass}
 use Rattle.verb_log.specs.Changes.{changes_by}
@@ -49,7 +46,7 @@ use Rattle.pass_laws.proofs.Bridge.{safe_in_order}
 use Rattle.pass_laws.proofs.Rules.{by_weaker, by_end, by_kept}
 use Rattle.pass_laws.proofs.TableAddress.{table_address}
 use Rattle.pass_laws.proofs.Searching.{Own, all_searches, own_before, by_start_safe}
-use Rattle.pass_laws.proofs.Sim.{Sim, safe_sim, SameMode, LostSo, HeadSo, EndsAlike, FreeFrom, FreeSo, Alike, aim_of}
+use Rattle.pass_laws.proofs.Sim.{safe_sim, SameMode, LostSo, HeadSo, EndsAlike, FreeFrom, FreeSo, Alike, aim_of}
 use Rattle.pass_laws.proofs.SameWords.{head_alike}
 use Rattle.pass_laws.proofs.SamePass.{header_sim}
 

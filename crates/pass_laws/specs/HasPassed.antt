@@ -9,7 +9,7 @@ use Rattle.verb_log.specs.Tables.{Past, Before, word_at}
 use Rattle.race_laws.specs.Setting.{Setting, hash}
 use Rattle.race_laws.specs.Standing.{header_in, key_header, IsGone, Exits, Stays}
 use Rattle.race_laws.specs.Chains.{Holder}
-use Rattle.race_laws.specs.Looks.{Reading, Searched, InOrder, PassedBy}
+use Rattle.race_laws.specs.Looks.{Reading, InOrder, PassedBy}
 use Rattle.log_facts.specs.Passings.{searched_before}
 use Rattle.log_facts.specs.Start.{Start}
 use Rattle.pass_text.specs.declared.job.PassMode.{PassMode}

@@ -1,6 +1,6 @@
 -- Safe programs over logs newest first: the same calculus as `Safe`, in the form in which the laws of legal logs speak, with a
 -- rule of what the client's own entries are besides legal.
-use Rattle.std.specs.Prelude.{◌≡◌, ◌≢◌, ℕ, ◌<◌, [], ◌∷◌, Option, Some, None}
+use Rattle.std.specs.Prelude.{◌≡◌, ◌≢◌, ℕ, ◌<◌, ◌∷◌, Option, Some, None}
 use Rattle.verb_log.specs.declared.entry.Entry.{Entry}
 use Rattle.verb_log.specs.declared.entry.Verb.{Verb}
 use Rattle.verb_log.specs.declared.entry.Verb.TheVariants.{Read, Write, Swap}
