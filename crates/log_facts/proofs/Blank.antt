@@ -1,4 +1,4 @@
--- Words that were never taken are 0, and so are those of a take.
+-- Words that were never taken are 0, and so are those of a take. Of every legal log.
 use Rattle.std.specs.Prelude.{◌≡◌, ℕ, ◌+◌, ◌*◌, ◌<◌, ◌≤◌, Bool, true, false, [], ◌∷◌, refl}
 use Rattle.std.proofs.Common.{sym, ◌∙◌, ap, subst, arith, ⊎_elim}
 use Rattle.node_words.specs.declared.geometry.Geometry.{Geometry}

@@ -1,4 +1,4 @@
--- Bucket headers beside their table's header, its children and its parent.
+-- Bucket headers beside their table's header, its children and its parent. Of every legal log.
 use Rattle.std.specs.Prelude.{◌≡◌, ◌≢◌, ℕ, ◌+◌, ◌*◌, ◌<◌, ◌≤◌, [], ◌∷◌, ◌⊎◌, refl}
 use Rattle.std.proofs.Common.{sym, ◌∙◌, ap, subst, inl, inr, arith, ⊎_elim}
 use Rattle.std.proofs.lemmas.Bool.{cases_lt}

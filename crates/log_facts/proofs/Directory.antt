@@ -1,4 +1,4 @@
--- Directory words name tables on the chains of the hashes with their index.
+-- Directory words name tables on the chains of the hashes with their index. Of every legal log; a word that is set stays set.
 use Rattle.std.specs.Prelude.{◌≡◌, ◌≢◌, ℕ, zero, suc, ◌+◌, ◌-◌, ◌*◌, ◌/◌, ◌%◌, ◌^◌, ◌<◌, ◌≤◌, Bool, true, false, cond, ◌&&◌, nat_le, nat_lt, [], ◌∷◌, Some, None, ◌⊎◌, refl}
 use Rattle.std.proofs.Common.{sym, ◌∙◌, ap, subst, inl, inr, arith, ⊎_elim, le_refl}
 use Rattle.std.proofs.lemmas.Nat.{pow_pos, mod_below}

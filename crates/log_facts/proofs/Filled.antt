@@ -1,4 +1,4 @@
--- In a table that fills each place is empty or a copy, or the same place of the parent is moved, or was clear.
+-- In a table that fills each place is empty or a copy, or the same place of the parent is moved, or was clear. Of every legal log.
 use Rattle.std.specs.Prelude.{◌≡◌, ◌≢◌, ℕ, ◌-◌, ◌≤◌, [], ◌∷◌}
 use Rattle.std.proofs.Common.{sym, ◌∙◌, ap, subst, arith, ⊎_elim}
 use Rattle.slot_word.specs.declared.slots.Mark.{Mark}

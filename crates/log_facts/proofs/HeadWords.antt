@@ -1,4 +1,4 @@
--- Header words by what they say.
+-- Header words by what they say. Of every word.
 use Rattle.std.specs.Prelude.{◌≡◌, ℕ, ◌≤◌, Option, Some, None, refl}
 use Rattle.std.proofs.Common.{sym, ◌∙◌, ap}
 use Rattle.slot_word.specs.declared.heads.State.{State}

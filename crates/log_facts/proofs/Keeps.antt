@@ -1,4 +1,5 @@
--- What entries keep that use no lock of the client, of a table whose lock the client has.
+-- What a lock keeps: facts of a table whose lock the client has, kept by the entries of other clients and by those of its own that
+-- use no lock.
 use Rattle.std.specs.Prelude.{◌≡◌, ◌≢◌, ℕ, ◌+◌, ◌*◌, ◌<◌, ◌==◌, ◌&&◌, nat_lt, not, true, ◌∷◌, Some, ◌⊎◌, refl}
 use Rattle.std.proofs.Common.{sym, ◌∙◌, ap, arith, ⊎_elim, inl, inr}
 use Rattle.std.proofs.lemmas.Bool.Decides.{nat_tests}

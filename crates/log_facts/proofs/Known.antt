@@ -1,4 +1,4 @@
--- What is known of a block that a look found held.
+-- What is known of a block that a look found held: kept by every legal entry.
 use Rattle.std.specs.Prelude.{◌≡◌, ℕ, ◌^◌, ◌<◌, true, List, ◌∷◌, Some, refl}
 use Rattle.std.proofs.Common.{sym, ◌∙◌, ap, subst, arith}
 use Rattle.std.proofs.lemmas.Nat.{div_below}
@@ -25,7 +25,6 @@ use Rattle.race_laws.proofs.Presence.{holder_home}
 use Rattle.log_facts.proofs.Prints.{prints}
 use Rattle.log_facts.specs.Mine.{Mine}
 use Rattle.log_facts.proofs.Mine.{mine_own}
-use Rattle.log_facts.proofs.SlotWords.{content_word, slot_fields}
 
 -- what was held: a block of the key, in a slot of a table
 pub record Known (s : Setting) (key : List ℕ) (t p : ℕ) (b : Body) (pr : Pair) (q : Past) : Type 0 where
@@ -59,15 +58,6 @@ live_holder s q l key t p b pr k st =
     let w : Word s.geometry q Live t p b pr = record { stands = st; packs = k.packs } in
     let seat = word_candidate s q l q here t p Live b pr k.table k.place w in
     subst (λ v. Holder s q v t p b pr) k.same_key (live t p b pr w refl seat.candidate seat.chain)
-
--- the live word of a block that a copy named says so
-pub live_says : (s : Setting) (q : Past) → Legal s q → (key : List ℕ) → hash s key < 2 ^ 64 → (t p word : ℕ) (b : Body) (pr : Pair) → Holder s q key t p b pr → content word ≡ Full Copied b → place_in s.geometry q t p ≡ Full Copied b → content (slot_word (record { mark = Live; fp = b.print; len = b.length; at = b.at })) ≡ Full Live b
-live_says s q l key small t p word b pr ho cw w =
-    let hm = holder_home s q l key t p b pr ho in
-    let f = slot_fields word Copied b cw in
-    let print = prints s q l q here t p Copied b pr hm.table hm.place (record { stands = w; packs = hm.packs }) ∙ ap (print_of s) hm.same_key in
-    content_word (record { mark = Live; fp = b.print; len = b.length; at = b.at })
-    (record { low = f.0; high = f.1; print = subst (λ v. v < 2 ^ 8) (sym print) (div_below (hash s key) (2 ^ 56) (2 ^ 8) (omega arith) (omega (arith, small))); words = f.2 })
 
 -- an entry of one's own on a slot, of a block that is published, leaves one's words
 pub own_slot : (s : Setting) (q : Past) (e : Entry) → Legal s (e ∷ q) → (c t p a n : ℕ) (m : Mark) (b : Body) → role s.geometry q e.at ≡ SlotWord t p → content e.new ≡ Full m b → Named s.geometry q b → Mine s.geometry q c a n → Mine s.geometry (e ∷ q) c a n

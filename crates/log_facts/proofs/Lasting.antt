@@ -1,4 +1,4 @@
--- Published blocks last, among others on a legal log.
+-- Published blocks last, among others on a legal log: kept by every legal entry.
 use Rattle.std.specs.Prelude.{ℕ, ◌+◌, reverse}
 use Rattle.std.proofs.Common.{sym, ◌∙◌, subst, arith}
 use Rattle.verb_log.specs.Tables.{here, later}

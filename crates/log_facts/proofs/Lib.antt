@@ -17,7 +17,6 @@ pub mod Filled
 pub mod Never
 pub mod Keeps
 pub mod TheStarts
-pub mod SlotWords
 pub mod HeadWords
 pub mod Marks
 pub mod Silent

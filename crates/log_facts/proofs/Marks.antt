@@ -1,4 +1,4 @@
--- Slot words by what they say: a word is that of its mark and its block, and another mark may be put on it.
+-- Slot words by what they say: a word is that of its mark and its block, and another mark may be put on it. Of every word.
 use Rattle.std.specs.Prelude.{◌≡◌, ℕ, ◌+◌, ◌*◌, ◌/◌, ◌%◌, ◌^◌, ◌<◌, ◌≤◌, ◌==◌, Bool, true, false, cond, Option, Some, None, refl}
 use Rattle.std.proofs.Common.{sym, ◌∙◌, ap, subst, arith}
 use Rattle.std.proofs.lemmas.Bool.{cond-false}

@@ -1,4 +1,4 @@
--- Entries that use no lock, by the role of their word; and what entries beside keep, others keep.
+-- Entries that use no lock, by the role of their word; and what entries beside keep, the entries of others keep.
 use Rattle.std.specs.Prelude.{◌≡◌, ℕ, ◌*◌, ◌<◌, Bool, true, false, not, ◌&&◌, nat_lt, refl}
 use Rattle.std.proofs.Common.{◌∙◌, ap}
 use Rattle.node_words.specs.Addresses.{node_at, header_at, slot_at, bucket_header_at}

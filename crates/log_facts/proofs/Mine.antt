@@ -1,4 +1,5 @@
--- Words that a client took and that no slot and no link has published: others leave them alone.
+-- A client's own words: words that it took and that no slot and no link has published. Entries of other clients leave them alone, and
+-- so do own entries that publish none of them.
 use Rattle.std.specs.Prelude.{◌≡◌, ◌≢◌, ℕ, ◌+◌, ◌<◌, ◌≤◌, Bool, true, false, ◌&&◌, ◌||◌, ◌==◌, [], ◌∷◌, ◌⊎◌, refl}
 use Rattle.std.proofs.Common.{sym, ◌∙◌, ap, subst, inl, inr, arith, ⊎_elim}
 use Rattle.std.proofs.lemmas.Bool.Decides.{nat_tests}

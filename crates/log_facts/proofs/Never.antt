@@ -1,4 +1,4 @@
--- A block that was moved at a place is never live there again.
+-- A block that was moved at a place is never live there again: kept by every legal entry.
 use Rattle.std.specs.Prelude.{◌≡◌, ◌≢◌, ℕ, ◌+◌, ◌<◌, Bool, false, ◌∷◌, ◌⊎◌}
 use Rattle.std.proofs.Common.{sym, ◌∙◌, ap, subst, inl, inr, arith, ⊎_elim}
 use Rattle.slot_word.specs.declared.slots.Mark.{Mark}

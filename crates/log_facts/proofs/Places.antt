@@ -1,4 +1,5 @@
--- The Place entries that a client has made since a position.
+-- The Place entries that a client has made since a position: kept by entries of other clients, and by own entries that publish
+-- nothing.
 use Rattle.std.specs.Prelude.{◌≡◌, ℕ, true, ◌∷◌, Some, refl}
 use Rattle.std.proofs.Common.{sym, ◌∙◌, subst, arith}
 use Rattle.slot_word.specs.declared.slots.Mark.TheVariants.{Pending}

@@ -1,4 +1,4 @@
--- Each slot word has the fingerprint of the key of its block.
+-- Each slot word has the fingerprint of the key of its block. Of every legal log.
 use Rattle.std.specs.Prelude.{◌≡◌, ℕ, [], ◌∷◌, Option, Some}
 use Rattle.std.proofs.Common.{sym, ◌∙◌, ap, subst, ⊎_elim}
 use Rattle.slot_word.specs.declared.slots.Mark.{Mark}

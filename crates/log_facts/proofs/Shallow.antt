@@ -1,4 +1,4 @@
--- A directory word below 2 ^ d names a table that was born no deeper than d.
+-- A directory word below 2 ^ d names a table that was born no deeper than d. Of every legal log.
 use Rattle.std.specs.Prelude.{◌≢◌, ℕ, ◌%◌, ◌^◌, ◌<◌, ◌≤◌, ◌⊎◌}
 use Rattle.std.proofs.Common.{arith, ⊎_elim, inl, inr}
 use Rattle.std.proofs.lemmas.Bool.{cases_lt}

@@ -1,4 +1,4 @@
--- Entries that publish nothing, and what others keep and such entries of one's own.
+-- Entries that publish nothing; and facts that are kept by entries of other clients, and by own entries that publish nothing.
 use Rattle.std.specs.Prelude.{◌≡◌, ◌≢◌, ℕ, Bool, true, not, ◌&&◌, nat_lt, ◌==◌, ◌∷◌}
 use Rattle.std.proofs.Common.{sym, ◌∙◌, ap, subst}
 use Rattle.node_words.specs.Addresses.{table_words}

@@ -1,4 +1,4 @@
--- Where a pass may begin is so in each longer legal log; and where it begins then.
+-- Where a pass may start: kept by every legal entry; and which starts are on the chain, and what a filling one is.
 use Rattle.std.specs.Prelude.{◌≡◌, ◌≢◌, ℕ, ◌%◌, ◌^◌, ◌<◌, ◌≤◌, [], Some}
 use Rattle.std.proofs.Common.{sym, ◌∙◌, ap, subst, arith, ⊎_elim}
 use Rattle.std.proofs.lemmas.Nat.{pow_pos, mod_below}

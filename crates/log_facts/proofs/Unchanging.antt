@@ -1,4 +1,4 @@
--- Entries that change nothing in the map, by what is known of their kind.
+-- Entries that change nothing in the map, by what is known of their kind. On every legal log.
 use Rattle.std.specs.Prelude.{◌≡◌, ℕ, ◌<◌, Bool, true, false, not, ◌&&◌, ◌==◌, [], Option, Some, None, refl}
 use Rattle.std.proofs.Common.{◌∙◌, ap}
 use Rattle.node_words.specs.declared.geometry.Geometry.{Geometry}

@@ -1,4 +1,4 @@
--- The words of a table and of a named block are words of the memory, and those of a named block never change.
+-- The words of a table and of a take are words of the memory, and a block has few words. Of every legal log.
 use Rattle.std.specs.Prelude.{◌≡◌, ℕ, ◌+◌, ◌*◌, ◌/◌, ◌<◌, ◌≤◌, ◌%◌, ◌^◌, List, length, Some, refl}
 use Rattle.std.proofs.Common.{subst, ◌∙◌, ap, arith, ⊎_elim}
 use Rattle.kv_block.specs.Packing.{Pair, packed}

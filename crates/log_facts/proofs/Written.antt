@@ -1,4 +1,4 @@
--- A block that a client has taken and written, kept by the entries of others; and the slot words that name it.
+-- A block that a client has taken and written: kept by entries of other clients; and the slot words that name it.
 use Rattle.std.specs.Prelude.{◌≡◌, ◌≢◌, ℕ, zero, suc, ◌+◌, ◌-◌, ◌^◌, ◌<◌, ◌≤◌, List, [], ◌∷◌, length, Some, refl}
 use Rattle.std.proofs.Common.{sym, ◌∙◌, ap, arith, get_or}
 use Rattle.std.proofs.lemmas.Bool.{cond-true, le-leb}
@@ -21,7 +21,8 @@ use Rattle.race_laws.proofs.SoundStep.{sound}
 use Rattle.log_facts.specs.Mine.{Block}
 use Rattle.log_facts.proofs.Mine.{mine_others, mine_word}
 use Rattle.log_facts.proofs.Taking.{mine_within}
-use Rattle.log_facts.proofs.SlotWords.{content_word}
+use Rattle.log_facts.specs.SlotWords.{marked}
+use Rattle.log_facts.proofs.Marks.{Fields, content_marked}
 
 -- the first i words of a list stand from an address on
 abbrev pub IsWritten : Geometry → Past → ℕ → List ℕ → ℕ → Type 0
@@ -51,7 +52,7 @@ block_others s c at ws q e l o b = record {
 }
 
 -- what the slot words of a written block say
-module _ (s : Setting) (c at : ℕ) (pair : Pair) (ip : IsPair pair) (small : hash s pair.key < 2 ^ 64) (q : Past) (l : Legal s q) (b : Block s c at (packed pair.key pair.value) q) where
+module _ (s : Setting) (c at : ℕ) (pair : Pair) (ip : IsPair pair) (q : Past) (l : Legal s q) (b : Block s c at (packed pair.key pair.value) q) where
   abbrev n : ℕ
   n = length (packed pair.key pair.value)
 
@@ -63,8 +64,8 @@ module _ (s : Setting) (c at : ℕ) (pair : Pair) (ip : IsPair pair) (small : ha
       let two = packed_least pair ip in
       let x = mine_within s c q l at n (at + n - 1) 0 b.mine (omega arith) (omega arith) in omega arith
 
-  pub is_slot : (m : Mark) → IsSlot (record { mark = m; fp = print_of s pair.key; len = n; at = at })
-  is_slot m =
+  fields : Fields body
+  fields =
       let two = packed_least pair ip in
       let most = packed_most pair ip in
       let t = (sound s q l).taken at (taken_by_someone s.geometry q c at (b.mine.taken at (omega arith) (omega arith))) in
@@ -73,15 +74,10 @@ module _ (s : Setting) (c at : ℕ) (pair : Pair) (ip : IsPair pair) (small : ha
       let some = first_free_low s.geometry in
       let room = block_within in
       let within = s.geometry.within in
-      record {
-        low = omega arith;
-        high = omega arith;
-        print = div_below (hash s pair.key) (2 ^ 56) (2 ^ 8) (omega arith) (omega (arith, small));
-        words = omega (arith, most);
-      }
+      record { low = omega arith; high = omega arith; words = omega (arith, most) }
 
-  pub says : (m : Mark) → content (slot_word (record { mark = m; fp = print_of s pair.key; len = n; at = at })) ≡ Full m body
-  says m = content_word (record { mark = m; fp = print_of s pair.key; len = n; at = at }) (is_slot m)
+  pub says : (m : Mark) → content (marked m body) ≡ Full m body
+  says m = content_marked m body fields
 
   pub block_packs : pair_at s.geometry q body ≡ Some pair
   block_packs = cond-true _ _ _ (le-leb (at + n) s.geometry.words block_within) ∙ ap unpacked b.written ∙ unpacked-packed pair ip
