@@ -28,3 +28,4 @@ pub mod Passings
 pub mod Naming
 pub mod Modest
 pub mod Unchanging
+pub mod Following

@@ -39,6 +39,7 @@ use Rattle.pass_laws.proofs.ListEnd.{Reads, IsSweep, PassEnd, Dropping, SafeDrop
 use Rattle.race_laws.proofs.Sound.{judged_is}
 use Rattle.kv_block.specs.Bytes.{AreBytes}
 use Rattle.log_facts.proofs.Growing.{since_before}
+use Rattle.log_facts.proofs.Following.{slot_meets}
 use Rattle.log_facts.proofs.Within.{block_length, slot_within}
 use Rattle.log_facts.proofs.Prints.{prints}
 use Rattle.log_facts.proofs.Starts.{start_before}
@@ -87,15 +88,7 @@ module _ (s : Setting) (key : List ℕ) (own : Option ℕ) (prev : Option Search
 -- a drop may follow
 module _ (s : Setting) (c : ℕ) (q : Past) (l : Legal s q) (t p : ℕ) (h : IsTable s.geometry q t) (k : IsPlace s.geometry p) (b : Body) (st : place_in s.geometry q t p ≡ Full Pending b) where
   pub drop_meets : Meets s q (change_in s.geometry c q (slot_at t p) 0)
-  drop_meets = record {
-    within = slot_within s q l t p h k;
-    stands = refl;
-    row = subst (λ v. Row s q e v (kind_of_role s.geometry q e v)) (sym (judged_is s.geometry q (sound s q l) (slot_at t p) ∙ slot_is s.geometry q (sound s q l) t p h k))
-        (subst (λ v. SlotRow s q e t p (slot_kind v (content 0))) (sym st) (subst (λ v. SlotRow s q e t p (slot_kind (Full Pending b) v)) (sym content-0) tt));
-  }
-    where
-      e : Entry
-      e = change_in s.geometry c q (slot_at t p) 0
+  drop_meets = slot_meets s c q l t p 0 (Full Pending b) Empty (Some Drop) h k st content-0 refl tt
 
   -- and is one
   pub drop_is : kind s.geometry q (change_in s.geometry c q (slot_at t p) 0) ≡ Some Drop
