@@ -1,12 +1,15 @@
 //! Work on words, for bench/words to time.
 //!
 //! The program's one word names the work, and it prints the sum of what the work told: `make_small` and `make_large` make a
-//! node of 65,536 and of 16,777,216 words 1,000 times; `read_node` and `read_vec` read 65,536 words 20 million times over, of a
-//! node and of a `Vec`; `push` pushes 2 million entries into a log. With any other word, or none, it does nothing.
+//! node of 65,536 and of 16,777,216 words 1,000 times; `read_node`, `read_sparse` and `read_vec` read 65,536 words 20 million
+//! times over, of a node, of `SparseWords` and of a `Vec`; `push` pushes 2 million entries into a log. With any other word, or
+//! none, it does nothing.
 #![tactic(auto)]
-ghost use Rattle.std.specs.Prelude.{◌≡◌, ◌≤◌, ◌<◌, IfSome, vec_len};
+
+ghost use Rattle.std.specs.Prelude.{◌≡◌, ◌≤◌, ◌<◌, IfSome, length, vec_len};
 
 use node_words::Geometry;
+use sparse_words::SparseWords;
 use std::alloc::{AllocError, Global};
 use std::{env, io};
 use verb_log::{Entry, Log};
@@ -60,6 +63,31 @@ fn read_node(node: &mut PlainNode, times: u64) -> Result<u64, AllocError>
     Ok(sum)
 }
 
+// Words in chunks that are all made.
+fn written(alloc: Global) -> Result<SparseWords, AllocError> {
+    let mut words = SparseWords::zeroed(alloc, SMALL)?;
+    for at in 0..SMALL {
+        words.reserve()?;
+        if at < words.len() {
+            words.set(at, at);
+        }
+    }
+    Ok(words)
+}
+
+// Reads words in chunks, in the same order.
+fn read_sparse(words: &SparseWords, times: u64) -> u64
+    requires { length words.now.items ≡ 65_536 }
+{
+    let mut sum = 0u64;
+    let mut at = 1u64;
+    for _ in 0..times {
+        sum = sum.wrapping_add(words.get(at));
+        at = following(at);
+    }
+    sum
+}
+
 // Reads the words of a `Vec`, in the same order.
 fn read_vec(words: &Vec<u64>, times: u64) -> u64
     requires { vec_len words.now ≡ 65_536 }
@@ -98,6 +126,14 @@ fn work(alloc: Global, word: &str) -> Result<u64, AllocError> {
         "make_small" => make(alloc, SMALL, 1_000),
         "make_large" => make(alloc, LARGE, 1_000),
         "read_node" => read_node(&mut PlainNode::make(alloc, geometry)?, 20_000_000),
+        "read_sparse" => {
+            let words = written(alloc)?;
+            Ok(if words.len() == SMALL {
+                read_sparse(&words, 20_000_000)
+            } else {
+                0
+            })
+        }
         "read_vec" => {
             let words = vec![in alloc; 0; 65_536]?;
             Ok(read_vec(&words, 20_000_000))
