@@ -1,7 +1,7 @@
 use Rattle.std.proofs.Common.{◌≡◌, ◌∙◌, sym, ap, ℕ, List, ◌++◌, length, take, Option, arith, append-nil}
 use Rattle.std.specs.Option.{option_to_list}
 use Rattle.node_words.specs.Opening.{opening}
-use Rattle.kv_block.specs.RoomyList.{RoomyList}
+use Rattle.item_list.specs.RoomyList.{RoomyList}
 use Rattle.kv_block.specs.declared.changes.Change.{Change}
 use Rattle.verb_log.proofs.InOrder.{replay-nil, length-replay}
 use Rattle.verb_log.proofs.ChangeRows.{changes_next, words_next}
