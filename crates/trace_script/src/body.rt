@@ -11,7 +11,7 @@ use crate::name::Name;
 use indexmap::IndexMap;
 use key_hash::Listed;
 use kv_block::Key;
-use map_model::{Call, Calls, Item, Items};
+use map_model::{Call, Calls, Items};
 use std::alloc::{AllocError, Global};
 use std::marker::Model;
 
@@ -109,7 +109,7 @@ impl Body {
     {
         let mut items = Items::new(alloc);
         for line in self.schedules() {
-            append(&mut items, line.as_slice())?;
+            items.append(line.as_slice())?;
         }
         Ok(items)
     }
@@ -213,13 +213,4 @@ fn call_last(clients: &mut IndexMap<Name, Calls>, call: Call) -> Result<(), Allo
         return Ok(());
     };
     calls.push(call)
-}
-
-pub fn append(items: &mut Items, more: &[Item]) -> Result<(), AllocError>
-    ensures { OnOk result (items.new.items ≡ items.old.items ++ more.now) }
-{
-    for item in more {
-        items.push(*item)?;
-    }
-    Ok(())
 }
