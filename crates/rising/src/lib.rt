@@ -15,3 +15,6 @@ mod twice;
 pub use on_node::rise_on;
 pub use rise::{Rise, RiseEnd, Start};
 pub use twice::Twice;
+
+#[cfg(test)]
+mod tests;

@@ -15,7 +15,7 @@ pub struct Start {
 }
 
 /// How the call ends: its swap put a depth into word 2, or each of its tries was lost.
-#[derive(Clone, Copy, Debug)]
+#[derive(Clone, Copy, Debug, PartialEq, Eq)]
 pub enum RiseEnd {
     Won { depth: u64 },
     Spent,
