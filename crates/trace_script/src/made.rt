@@ -50,7 +50,7 @@ impl Body {
         ensures made { IfOk result (λ body. body ≡ made_content plans.now []) }
         ensures clients { OnOk result (Each (IsClient 16) [] (made_clients 0 plans.now)) }
     {
-        let mut body = Body::new(alloc);
+        let mut body = Body::new(alloc)?;
         for (place, plan) in plans.iter().enumerate() {
             let name = Name::of_place(alloc, place as u32)?;
             let calls = copied(alloc, &plan.calls)?;

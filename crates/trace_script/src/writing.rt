@@ -145,8 +145,7 @@ impl Body {
     fn put_hashes(&self, out: &mut Text) -> Result<(), AllocError>
         ensures { OnOk result (out.new.items ≡ out.old.items ++ text_of (map hash_words self.now.hashes)) }
     {
-        let mut hashes = self.hashes().iter();
-        while let Some((key, hash)) = hashes.next() {
+        for (key, hash) in self.hashes().pairs() {
             out.put_hash_line(key, *hash)?;
         }
         Ok(())
