@@ -1,0 +1,3 @@
+pub mod Words
+pub mod Pass
+pub mod Bound
