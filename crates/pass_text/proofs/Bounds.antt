@@ -1,5 +1,5 @@
 -- A pass ends within so many verbs, whatever is answered.
-use Rattle.std.proofs.Common.{inl, inr, ◌≡◌, ℕ, zero, suc, ◌+◌, ◌-◌, ◌*◌, ◌≤◌, Bool, true, false, cond, Option, Some, None, List, [], ◌∷◌, ◌++◌, refl, arith}
+use Rattle.std.proofs.Common.{sym, subst, inl, inr, ◌≡◌, ℕ, zero, suc, ◌+◌, ◌-◌, ◌*◌, ◌≤◌, Bool, true, false, cond, Option, Some, None, List, [], ◌∷◌, ◌++◌, refl, arith}
 use Rattle.std.specs.Prelude.{◌==◌, ◌&&◌, nat_le}
 use Rattle.std.proofs.lemmas.Bool.Decides.{nat_tests}
 use Rattle.verbs.specs.Programs.{Prog, Within}
@@ -156,3 +156,9 @@ by_entry j None (suc (suc total)) le = λ depth table. table-within j (address_o
 -- a pass ends within so many verbs, whatever is answered
 pub pass-within : (j : Job) (entry : Option ℕ) → j.geometry.max_depth ≤ 16 → Within (pass_verbs j) (pass j entry)
 pass-within j entry deep = by_entry j entry (pass_verbs j) (omega arith)
+
+-- .. and so does what is the same program
+pub within_as-pass : (j : Job) (entry : Option ℕ) (p : Prog Passed) → p ≡ pass j entry → j.geometry.max_depth ≤ 16 → Within (pass_verbs j) p
+within_as-pass j entry p e deep = subst (Within (pass_verbs j)) (sym e) (pass-within j entry deep)
+
+pub ruleset bounds = (within_as-pass)
