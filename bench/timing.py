@@ -9,22 +9,33 @@ HERE = os.path.dirname(os.path.abspath(__file__))
 
 
 @functools.lru_cache(None)
-def program():
-    """The first word of the command line, else the program as `./race` builds it, which without words ends with status 2."""
+def program(name="race_cli"):
+    """The first word of the command line, else the program of that crate, which is built first where it is not."""
     if len(sys.argv) > 1:
         return sys.argv[1]
-    if subprocess.run([os.path.join(HERE, "../race")], stdin=subprocess.DEVNULL).returncode != 2:
-        sys.exit("the program is not built: see above")
-    return os.path.join(HERE, "../crates/race_cli/out/race_cli")
+    crate = os.path.join(HERE, "../crates", name)
+    if name == "race_cli":  # without words it ends with status 2
+        built = subprocess.run([os.path.join(HERE, "../race")], stdin=subprocess.DEVNULL).returncode == 2
+    else:
+        print("building " + name, file=sys.stderr)
+        built = subprocess.run(["rt", "run"], cwd=crate, stdin=subprocess.DEVNULL, capture_output=True).returncode == 0
+    if not built:
+        sys.exit("the program of crates/%s could not be built" % name)
+    return os.path.join(crate, "out", name)
 
 
-def least(text, status=0, wanted=None):
-    """The least time of five runs of `race replay` on a script, which end with this status and this output, where one is given."""
+def least_of(command, text=b"", status=0, wanted=None):
+    """The least time of five runs of a command on a text, which end with this status and this output, where one is given."""
     times = []
     for _ in range(5):
         start = time.perf_counter()
-        done = subprocess.run([program(), "replay"], input=text, stdout=subprocess.PIPE)
+        done = subprocess.run(command, input=text, stdout=subprocess.PIPE)
         times.append(time.perf_counter() - start)
         if done.returncode != status or wanted not in (None, done.stdout):
             sys.exit("status %d: %r" % (done.returncode, done.stdout[:60]))
     return min(times)
+
+
+def least(text, status=0, wanted=None):
+    """The same of `race replay` on a script."""
+    return least_of([program(), "replay"], text, status, wanted)

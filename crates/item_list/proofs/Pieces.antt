@@ -1,5 +1,5 @@
 -- Pieces of words: one of them, and one more.
-use Rattle.std.proofs.Common.{◌≡◌, ℕ, zero, suc, ◌+◌, ◌-◌, ◌<◌, ◌≤◌, List, [], ◌∷◌, ◌++◌, length, take, drop, map, Some, refl, sym, ap, ◌∙◌, arith}
+use Rattle.std.proofs.Common.{◌≡◌, ℕ, zero, suc, ◌+◌, ◌-◌, ◌<◌, ◌≤◌, List, [], ◌∷◌, ◌++◌, length, take, drop, get_or, map, Some, refl, sym, ap, ◌∙◌, arith}
 use Rattle.std.specs.Prelude.{slice_get, slice_index}
 use Rattle.std.specs.List.{between}
 use Rattle.std.proofs.lemmas.List.{drop-append-le, take-append-le, length-drop, drop_at, map-append}
@@ -73,3 +73,9 @@ slice_get-front [] i n x h e = absurd (cc)
 slice_get-front (y ∷ ys) i zero x h e = absurd (omega arith)
 slice_get-front (y ∷ ys) zero (suc n) x h e = e
 slice_get-front (y ∷ ys) (suc i) (suc n) x h e = slice_get-front ys i n x (omega arith) e
+
+-- an item, as the element that is read
+pub get_or-there : {X : Type 0} (xs : List X) (i : ℕ) (x : X) → slice_get xs i ≡ Some x → x ≡ get_or xs i x
+get_or-there [] i x e = refl
+get_or-there (y ∷ ys) zero x e = let f : y ≡ x = cc in sym f
+get_or-there (y ∷ ys) (suc i) x e = get_or-there ys i x e

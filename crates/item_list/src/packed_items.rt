@@ -8,24 +8,32 @@ use std::marker::Model;
 pub struct PackedItems<'a, T: Pack> {
     list: &'a PackedList<T>,
     at: usize,
+    end: usize,
 }
 
 impl<'a, T: Pack> Model for PackedItems<'a, T> {
-    ghost use Rattle.std.specs.Prelude.{List, drop};
+    ghost use Rattle.std.specs.Prelude.{◌≡◌, List, drop, length};
 
     ghost Value = { List T };
 
     ghost view = { λ s. drop s.at s.list.now.items };
+
+    ghost invariant = { λ s. s.end ≡ length s.list.now.items };
 }
 
 impl<'a, T: Pack> PackedItems<'a, T> {
-    ghost use Rattle.std.specs.Prelude.{◌≡◌};
+    ghost use Rattle.std.specs.Prelude.{◌≡◌, ◌<◌, ◌^◌, length};
 
     // All items of a list.
     pub(crate) fn of(list: &'a PackedList<T>) -> PackedItems<'a, T>
-        ensures { result ≡ list.now.items }
+        ensures items { result ≡ list.now.items }
+        ensures few { length list.now.items < 2 ^ 60 }
     {
-        PackedItems { list, at: 0 }
+        PackedItems {
+            list,
+            at: 0,
+            end: list.len(),
+        }
     }
 }
 
@@ -39,7 +47,7 @@ impl<'a, T: Pack> Iterator for PackedItems<'a, T> {
     ghost remaining = { item_count (λ items. items) };
 
     fn next(&mut self) -> Option<T> {
-        if self.at < self.list.len() {
+        if self.at < self.end {
             let item = self.list.get(self.at);
             self.at += 1;
             Some(item)

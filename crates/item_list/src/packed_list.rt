@@ -92,7 +92,8 @@ impl<T: Pack> PackedList<T> {
 
     /// The items, in order, each made as it is asked for.
     pub fn iter(&self) -> PackedItems<'_, T>
-        ensures { result ≡ self.now.items }
+        ensures items { result ≡ self.now.items }
+        ensures few { length self.now.items < 2 ^ 60 }
     {
         PackedItems::of(self)
     }

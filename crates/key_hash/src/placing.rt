@@ -71,13 +71,27 @@ impl Listed {
             × (self.new ≡ (if added then self.old ++ (key, hash) ∷ [] else self.old)))
             (λ _. self.new ≡ self.old) }
     {
-        if self.numbers.contains_key(&key) {
+        if self.contains(&key) {
             return Ok(false);
         }
         self.pairs.reserve(1)?;
         self.numbers.insert(key, hash)?;
         self.pairs.push_reserved((key, hash));
         Ok(true)
+    }
+
+    /// Whether the key is listed.
+    pub fn contains(&self, key: &Key) -> bool
+        ensures { result ≡ is_listed self.now key.now }
+    {
+        self.numbers.contains_key(key)
+    }
+
+    /// The listed keys with their numbers, in order of first appearance.
+    pub fn pairs(&self) -> &[(Key, u64)]
+        ensures { result.now ≡ self.now }
+    {
+        self.pairs.as_slice()
     }
 
     /// How many keys are listed.

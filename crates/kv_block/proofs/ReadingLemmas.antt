@@ -9,6 +9,7 @@ use Rattle.kv_block.specs.Packing.{Pair, IsPair, words_for, words_of, bytes_of, 
 use Rattle.kv_block.specs.Reading.{has_key, has_shape, block_value, block_key}
 use Rattle.kv_block.proofs.Packed.{IsByteList-from_AreBytes, length-words_of, take-bytes_of, length-packed, first-packed, key_length-first_word, HasShape-packed, value_in-packed, key_in-packed}
 
+-- words that have the shape pass its test
 shaped : (first : ℕ) (ws : List ℕ) → IsKeyLength (key_length first) → IsValueLength (value_length first) → length ws ≡ block_length first → has_shape first ws ≡ true
 shaped first ws k v n =
     let a : nat_le 1 (key_length first) ≡ true = let l = k.least in grind (arith, nat_tests) in
@@ -47,7 +48,7 @@ same_key a b ha hb n e =
     ∙ (λ i. take (n i) (bytes_of (e i)))
     ∙ take-bytes_of (words_for (length a)) b (IsByteList-from_AreBytes b hb) m
 
--- a pair's block is one of a key exactly where that is the pair's
+-- a pair's block that is one of a key has this key
 pub key_of-packed : (p : Pair) → IsPair p → (k : List ℕ) → AreBytes k → has_key (packed p.key p.value) k ≡ true → p.key ≡ k
 unfolding has_key
 key_of-packed p h k bytes e =
@@ -58,6 +59,7 @@ key_of-packed p h k bytes e =
     let of_p : take (words_for (length k)) (drop 1 ws) ≡ words_of (words_for (length p.key)) p.key = ap (λ (n : ℕ). take (words_for n) (drop 1 ws)) (sym len) ∙ key_words-packed p.key p.value in
     same_key p.key k h.key_bytes bytes len (sym of_p ∙ words ∙ ap (λ (n : ℕ). words_of (words_for n) k) (sym len))
 
+-- and it is one of the pair's key
 pub has_key-packed : (p : Pair) → IsPair p → has_key (packed p.key p.value) p.key ≡ true
 unfolding has_key
 has_key-packed p h =

@@ -1,5 +1,5 @@
 -- What a pass reads off the words. Each reading is total: of a word that no legal log has there it is a plain one.
-use Rattle.std.specs.Prelude.{ℕ, ◌+◌, ◌%◌, ◌^◌, ◌<◌, Bool, true, false, ◌==◌, nat_lt, nat_le, ◌&&◌, min, if◌then◌else◌, Option, Some, None, length, slice_index, unwrap_or}
+use Rattle.std.specs.Prelude.{ℕ, ◌+◌, ◌%◌, ◌^◌, Bool, true, false, ◌==◌, nat_lt, nat_le, ◌&&◌, min, if◌then◌else◌, Option, Some, None, length, slice_index, unwrap_or}
 use Rattle.slot_word.specs.declared.slots.Mark.TheVariants.{Moved}
 use Rattle.slot_word.specs.declared.slots.Slot.{Slot}
 use Rattle.slot_word.specs.declared.heads.Head.{Head}

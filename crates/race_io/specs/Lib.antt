@@ -1,4 +1,3 @@
-pub mod ByteList
 pub mod Counts
 pub mod Memory
 pub mod Transfer

@@ -5,8 +5,7 @@ ghost use Rattle.race_io.specs.Counts.{Rose};
 ghost use Rattle.race_io.specs.Transfer.{TakesAll, TakesSome};
 ghost use Rattle.race_io.specs.Memory.{one_more};
 
-use crate::Failed;
-use crate::byte_list::Bytes;
+use crate::{Bytes, Failed};
 use std::alloc::Global;
 use std::io::Read;
 use std::marker::Model;
@@ -302,17 +301,6 @@ mod tests {
         let mut clean = CleanSource::new(b"abcdef");
         let bytes = take_all(rt.alloc(), &mut clean, 10)?;
         assert_eq!(rt; bytes.as_slice(), b"abcdef".as_slice());
-        Ok(())
-    }
-
-    #[test]
-    fn bytes_grow(rt: HostRuntime) -> Result<(), Fail> {
-        let mut bytes = Bytes::new(rt.alloc());
-        assert!(rt; bytes.is_empty());
-        bytes.reserve()?;
-        bytes.push(7)?;
-        assert_eq!(rt; bytes.len(), 1);
-        assert_eq!(rt; *bytes.get(0), 7);
         Ok(())
     }
 }

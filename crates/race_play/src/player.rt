@@ -1,6 +1,5 @@
 //! The play of a script of one client, and its report.
 ghost use Rattle.std.specs.Prelude.{◌≡◌, ◌≤◌, ◌↔◌, ℕ, ◌∷◌, [], IsTrue, IfOk, OnOk, Some, None, Err, length, true};
-ghost use Rattle.map_model.specs.Machine.{is_change, is_quiet};
 ghost use Rattle.trace_script.specs.Gives.{told_of};
 ghost use Rattle.trace_script.specs.declared.report.Tag.TheVariants.{Point, Nothing};
 ghost use Rattle.race_play.specs.Holding.{Holds};
@@ -33,16 +32,6 @@ impl From<AllocError> for PlayFault {
     }
 }
 
-// Whether a reply is that of a call that changed the map.
-fn is_change(reply: &Reply) -> bool
-    ensures { result ≡ is_change reply.now }
-{
-    matches!(
-        reply,
-        Reply::Inserted | Reply::Updated(_) | Reply::Deleted(_)
-    )
-}
-
 // The tag of a reply, after so many changes.
 fn tag_of(reply: &Reply, changes: u64) -> Tag
     ensures { (held : Held) → held.changes ≡ changes → result ≡ tag_of held reply.now }
@@ -71,16 +60,17 @@ fn play(alloc: Global, table: &mut Table, calls: &Calls) -> Result<Lines, AllocE
 {
     let mut lines = Lines::new(alloc);
     let mut changes = 0;
-    let items = calls.as_slice();
-    for (index, call) in items.iter().enumerate() {
-        let reply = table.answer(call);
+    let count = calls.len();
+    for index in 0..count {
+        let call = calls.get(index);
+        let reply = table.answer(&call);
         lines.push(Line {
             client: 0,
             number: index as u32 + 1,
             reply: Some(reply),
             tag: tag_of(&reply, changes),
         })?;
-        if is_change(&reply) {
+        if reply.is_change() {
             changes += 1;
         }
     }

@@ -34,17 +34,23 @@ fn is_plain_call(call: &Call) -> bool
 fn are_plain(calls: &Calls) -> bool
     ensures { result ≡ list_all is_plain_call calls.now.items }
 {
-    calls.as_slice().iter().all(|call| is_plain_call(call))
+    for call in calls.iter() {
+        if !is_plain_call(&call) {
+            return false;
+        }
+    }
+    true
 }
 
 // How many inserts and searches stand before the first other call.
 fn plain_calls(calls: &Calls) -> u64
     ensures { result ≡ plain_calls calls.now.items }
 {
-    let items = calls.as_slice();
+    let len = calls.len();
     let mut count = 0;
-    while count < items.len() {
-        if !is_plain_call(&items[count]) {
+    while count < len {
+        let call = calls.get(count);
+        if !is_plain_call(&call) {
             break;
         }
         count += 1;

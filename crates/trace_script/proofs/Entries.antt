@@ -5,7 +5,7 @@ use Rattle.std.specs.Map.{keys_of, lookup}
 use Rattle.indexmap.specs.IndexMap.{IndexMap, insert_entry}
 use Rattle.indexmap.proofs.MapLemmas.{some_index}
 use Rattle.indexmap.proofs.CallerLemmas.{insert_entry-new}
-use Rattle.kv_block.specs.RoomyList.{RoomyList}
+use Rattle.item_list.specs.RoomyList.{RoomyList}
 use Rattle.map_model.specs.declared.calls.Call.{Call}
 use Rattle.trace_script.specs.Content.{client_view, called}
 use Rattle.indexmap.specs.Layout.{set_value_at}

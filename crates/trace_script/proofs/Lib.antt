@@ -3,6 +3,7 @@ pub mod Numbers
 pub mod Hex
 pub mod Names
 pub mod Entries
+pub mod LineWords
 pub mod ReadItems
 pub mod Schedules
 pub mod Placed

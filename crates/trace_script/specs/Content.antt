@@ -1,7 +1,7 @@
 -- What a script has.
 use Rattle.std.specs.Prelude.{ℕ, nat_eq, List, [], ◌∷◌, ◌++◌, map, slice_index_or, Option, position}
 use Rattle.std.specs.Map.{lookup}
-use Rattle.kv_block.specs.RoomyList.{RoomyList}
+use Rattle.item_list.specs.RoomyList.{RoomyList}
 use Rattle.kv_block.specs.Bytes.{key_eq}
 use Rattle.map_model.specs.declared.calls.Call.{Call}
 use Rattle.map_model.specs.declared.plans.Item.{Item}

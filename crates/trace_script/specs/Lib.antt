@@ -8,5 +8,6 @@ pub mod Drafts
 pub mod Tables
 pub mod Refused
 pub mod Report
+pub mod LineWords
 pub mod Valid
 pub mod Made

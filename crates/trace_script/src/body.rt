@@ -11,14 +11,14 @@ use crate::name::Name;
 use indexmap::IndexMap;
 use key_hash::Listed;
 use kv_block::Key;
-use map_model::{Call, Calls, Item, Items};
+use map_model::{Call, Calls, Items};
 use std::alloc::{AllocError, Global};
 use std::marker::Model;
 
 // The lines of a script behind the first two.
 #[derive(Drop)]
 pub struct Body {
-    hashes: IndexMap<Key, u64>,
+    hashes: Listed,
     clients: IndexMap<Name, Calls>,
     stops: IndexMap<u32, u64>,
     schedules: Vec<Items>,
@@ -31,7 +31,7 @@ impl Model for Body {
     ghost Value = { Content };
 
     ghost view = { λ b. record {
-      hashes = b.hashes.entries;
+      hashes = b.hashes;
       clients = map client_view b.clients.entries;
       stops = b.stops.entries;
       schedules = map (λ items. items.items) b.schedules.items;
@@ -42,15 +42,15 @@ impl Model for Body {
 
 impl Body {
     // Nothing read yet.
-    pub fn new(alloc: Global) -> Body
-        ensures { result ≡ no_content }
+    pub fn new(alloc: Global) -> Result<Body, AllocError>
+        ensures { IfOk result (λ body. body ≡ no_content) }
     {
-        Body {
-            hashes: IndexMap::new(alloc),
+        Ok(Body {
+            hashes: Listed::new(alloc)?,
             clients: IndexMap::new(alloc),
             stops: IndexMap::new(alloc),
             schedules: Vec::new(alloc),
-        }
+        })
     }
 
     pub fn has_no_client(&self) -> bool
@@ -78,8 +78,8 @@ impl Body {
         self.clients.len() as u32
     }
 
-    pub fn hashes(&self) -> &IndexMap<Key, u64>
-        ensures { result.now.entries ≡ self.now.hashes }
+    pub fn hashes(&self) -> &Listed
+        ensures { result.now ≡ self.now.hashes }
     {
         &self.hashes
     }
@@ -109,7 +109,7 @@ impl Body {
     {
         let mut items = Items::new(alloc);
         for line in self.schedules() {
-            append(&mut items, line.as_slice())?;
+            items.append(line.as_slice())?;
         }
         Ok(items)
     }
@@ -120,8 +120,7 @@ impl Body {
         ensures { IfOk result (λ listed. listed ≡ self.now.hashes) }
     {
         let mut listed = Listed::new(alloc)?;
-        let mut hashes = self.hashes.iter();
-        while let Some((key, hash)) = hashes.next() {
+        for (key, hash) in self.hashes.pairs() {
             let _ = listed.add(*key, *hash)?;
         }
         Ok(listed)
@@ -146,7 +145,7 @@ impl Body {
     pub fn is_listed(&self, key: &Key) -> bool
         ensures { result ≡ is_listed self.now.hashes key.now }
     {
-        self.hashes.contains_key(key)
+        self.hashes.contains(key)
     }
 
     pub fn client_at(&self, name: &Name) -> Option<u32>
@@ -167,7 +166,7 @@ impl Body {
         requires { is_listed self.old.hashes key ≡ false }
         ensures { OnOk result (self.new ≡ with_hash self.old key hash) }
     {
-        self.hashes.insert(key, hash)?;
+        let _ = self.hashes.add(key, hash)?;
         Ok(())
     }
 
@@ -213,13 +212,4 @@ fn call_last(clients: &mut IndexMap<Name, Calls>, call: Call) -> Result<(), Allo
         return Ok(());
     };
     calls.push(call)
-}
-
-pub fn append(items: &mut Items, more: &[Item]) -> Result<(), AllocError>
-    ensures { OnOk result (items.new.items ≡ items.old.items ++ more.now) }
-{
-    for item in more {
-        items.push(*item)?;
-    }
-    Ok(())
 }

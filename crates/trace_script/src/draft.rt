@@ -8,7 +8,7 @@ ghost use Rattle.trace_script.specs.Gives.{Gives};
 
 use crate::body::Body;
 use crate::command::Command;
-use crate::fault::{Halt, ScriptKind};
+use crate::fault::{Halt, ScriptFault, ScriptKind};
 use crate::word::{cut, one_word, read_key, read_value, two_words};
 use kv_block::{Key, Value};
 use map_model::Call;
@@ -35,7 +35,24 @@ pub enum Step {
 }
 
 impl Draft {
+    ghost use Rattle.std.specs.Prelude.{IfOk, IfErr};
+    ghost use Rattle.trace_script.specs.Content.{no_content};
     ghost use Rattle.trace_script.specs.Drafts.{reading_of, step_told};
+
+    // Nothing read yet, of a script that may have so many clients. It fails only for want of memory.
+    pub fn new(alloc: Global, most: u32) -> Result<Draft, ScriptFault>
+        ensures empty { IfOk result (λ draft. draft ≡ record { most = most; calls = 0; body = no_content }) }
+        ensures wanting { IfErr result (λ fault. fault ≡ ScriptFault.OutOfMemory) }
+    {
+        let Ok(body) = Body::new(alloc) else {
+            return Err(ScriptFault::OutOfMemory);
+        };
+        Ok(Draft {
+            most,
+            calls: 0,
+            body,
+        })
+    }
 
     // Why the line of a command may not stand here.
     fn misplaced(&self, command: Command) -> Option<ScriptKind>

@@ -12,6 +12,7 @@ mod body;
 mod command;
 mod draft;
 mod fault;
+mod line_words;
 mod lines;
 mod made;
 mod name;

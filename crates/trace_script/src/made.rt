@@ -5,7 +5,7 @@ ghost use Rattle.trace_script.specs.ScriptText.{text_of_script};
 ghost use Rattle.trace_script.specs.Valid.{Each, IsCall, IsClient, IsItem};
 ghost use Rattle.trace_script.specs.Made.{made_clients, made_content, made_schedules, made_script, planned_calls};
 
-use crate::body::{Body, append};
+use crate::body::Body;
 use crate::name::Name;
 use crate::script::Script;
 use map_model::{Call, Calls, Item, Items, Plan, Plans};
@@ -31,14 +31,14 @@ fn is_call(call: &Call)
 }
 
 // A copy of calls.
-fn copied(alloc: Global, calls: &[Call]) -> Result<Calls, AllocError>
-    ensures same { IfOk result (λ copy. copy.items ≡ calls.now) }
-    ensures known { OnOk result (AllByRecursion IsCall calls.now) }
+fn copied(alloc: Global, calls: &Calls) -> Result<Calls, AllocError>
+    ensures same { IfOk result (λ copy. copy.items ≡ calls.now.items) }
+    ensures known { OnOk result (AllByRecursion IsCall calls.now.items) }
 {
     let mut copy = Calls::new(alloc);
-    for call in calls {
-        is_call(call);
-        copy.push(*call)?;
+    for call in calls.iter() {
+        is_call(&call);
+        copy.push(call)?;
     }
     Ok(copy)
 }
@@ -50,10 +50,10 @@ impl Body {
         ensures made { IfOk result (λ body. body ≡ made_content plans.now []) }
         ensures clients { OnOk result (Each (IsClient 16) [] (made_clients 0 plans.now)) }
     {
-        let mut body = Body::new(alloc);
+        let mut body = Body::new(alloc)?;
         for (place, plan) in plans.iter().enumerate() {
             let name = Name::of_place(alloc, place as u32)?;
-            let calls = copied(alloc, plan.calls.as_slice())?;
+            let calls = copied(alloc, &plan.calls)?;
             body.add_client(name, calls)?;
         }
         Ok(body)
@@ -67,7 +67,7 @@ impl Body {
         while !rest.is_empty() {
             let (line, others) = rest.split_at(LINE_ITEMS.min(rest.len()));
             let mut schedule = Items::new(alloc);
-            append(&mut schedule, line)?;
+            schedule.append(line)?;
             self.add_schedule(schedule)?;
             rest = others;
         }

@@ -59,11 +59,7 @@ fn read_lines(alloc: Global, most: u32, bytes: &[u8]) -> Result<Body, ScriptFaul
     requires short { length bytes.now ≤ 4194304 }
     ensures { Reads (λ body. body) result (read_lines most 3 (record { calls = 0; content = no_content }) (parts_at 10 bytes.now)) }
 {
-    let mut draft = Draft {
-        most,
-        calls: 0,
-        body: Body::new(alloc),
-    };
+    let mut draft = Draft::new(alloc, most)?;
     let mut rest = bytes;
     let mut number = 3;
     'lines: loop {

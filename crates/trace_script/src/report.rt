@@ -10,10 +10,10 @@ ghost use Rattle.trace_script.specs.Report.{reply_line, head_line, map_line, out
 
 use crate::script::Script;
 use crate::text::Text;
+use item_list::PackedList;
 use kv_block::{Key, Value};
 use map_model::{Call, MapMachine, Nexts, Reply};
 use std::alloc::{AllocError, Global};
-use std::marker::Model;
 
 /// What the report tells of where a call stands. It comes with the map's replies alone.
 #[derive(Clone, Copy, Debug, PartialEq, Eq)]
@@ -50,95 +50,8 @@ pub enum Mode {
     Batch,
 }
 
-/// A list of lines. A clause sees its items, and its room: how many more fit before memory is asked for.
-#[derive(Debug, Drop)]
-pub struct Lines {
-    lines: Vec<Line>,
-}
-
-impl Model for Lines {
-    ghost use Rattle.std.specs.Prelude.{◌-◌, vec_len, vec_capacity};
-    ghost use Rattle.kv_block.specs.RoomyList.{RoomyList};
-    ghost use Rattle.trace_script.specs.declared.report.Line.{Line};
-
-    ghost Value = { RoomyList Line };
-
-    ghost view = { λ list. record { items = list.lines.items; room = vec_capacity list.lines - vec_len list.lines } };
-}
-
-impl Lines {
-    ghost use Rattle.std.specs.Prelude.{◌≡◌, ◌<◌, ◌≤◌, ◌↔◌, IsTrue, Some, [], ◌∷◌, ◌++◌, length, slice_get, OnOk, OnErr, IsOk};
-
-    /// The list with no line.
-    pub fn new(alloc: Global) -> Lines
-        ensures { result.items ≡ [] }
-    {
-        Lines {
-            lines: Vec::new(alloc),
-        }
-    }
-
-    /// How many lines there are.
-    pub fn len(&self) -> usize
-        ensures { result ≡ length self.now.items }
-    {
-        self.lines.len()
-    }
-
-    /// Whether there is no line.
-    pub fn is_empty(&self) -> bool
-        ensures { IsTrue result ↔ (self.now.items ≡ []) }
-    {
-        self.lines.is_empty()
-    }
-
-    /// The line at place `i`, counted from 0.
-    pub fn get(&self, i: usize) -> &Line
-        requires { i < length self.now.items }
-        ensures { slice_get self.now.items i ≡ Some result.now }
-    {
-        &self.lines[i]
-    }
-
-    /// Makes room for at least one more line. A refusal changes nothing.
-    pub fn reserve(&mut self) -> Result<(), AllocError>
-        ensures items { self.new.items ≡ self.old.items }
-        ensures room { OnOk result (1 ≤ self.new.room) }
-        ensures refused { OnErr result (self.new ≡ self.old) }
-        ensures succeeds { 1 ≤ self.old.room → IsOk result }
-    {
-        self.lines.reserve(1)
-    }
-
-    /// Appends the line. It answers Ok where there is room for one more. A refusal leaves the list as it was.
-    pub fn push(&mut self, line: Line) -> Result<(), AllocError>
-        ensures appended { OnOk result (self.new.items ≡ self.old.items ++ line ∷ []) }
-        ensures refused { OnErr result (self.new.items ≡ self.old.items) }
-        ensures succeeds { 1 ≤ self.old.room → IsOk result }
-    {
-        let Line {
-            client,
-            number,
-            reply,
-            tag,
-        } = line;
-        self.lines.reserve(1)?;
-        self.lines.push_reserved(Line {
-            client,
-            number,
-            reply,
-            tag,
-        });
-        Ok(())
-    }
-
-    /// The lines, in order.
-    pub fn as_slice(&self) -> &[Line]
-        ensures { result.now ≡ self.now.items }
-    {
-        self.lines.as_slice()
-    }
-}
+/// A list of lines, each kept as its numbers and its reply's words.
+pub type Lines = PackedList<Line>;
 
 impl Text {
     ghost use Rattle.trace_script.specs.Report.{nexts_text, reply_line, tag_text, outcome_text, call_line, mode_text, head_line, map_line};
@@ -304,7 +217,7 @@ impl Script {
         out.put(self.name(line.client))?;
         out.put_spaced_number(u64::from(line.number))?;
         out.push(b' ')?;
-        out.put_call(call)
+        out.put_call(&call)
     }
 
     // Appends a client's call with its outcome.
@@ -343,24 +256,25 @@ fn put_pairs(out: &mut Text, map: &MapMachine) -> Result<(), AllocError>
 }
 
 // Appends the lines of calls.
-fn put_outcomes(out: &mut Text, script: &Script, lines: &[Line]) -> Result<(), AllocError>
-    requires { All (λ line. IsOfCall script.now.content line) lines.now }
-    ensures { OnOk result (out.new.items ≡ out.old.items ++ flat_map (outcome_line script.now.content) lines.now) }
+fn put_outcomes(out: &mut Text, script: &Script, lines: &Lines) -> Result<(), AllocError>
+    requires { All (λ line. IsOfCall script.now.content line) lines.now.items }
+    ensures { OnOk result (out.new.items ≡ out.old.items ++ flat_map (outcome_line script.now.content) lines.now.items) }
 {
-    for line in lines {
-        script.put_outcome_line(out, line)?;
+    for i in 0..lines.len() {
+        let line = lines.get(i);
+        script.put_outcome_line(out, &line)?;
     }
     Ok(())
 }
 
-fn answered_calls(lines: &[Line]) -> usize
-    ensures { result ≡ count_by is_answered lines.now }
+fn answered_calls(lines: &Lines) -> usize
+    ensures { result ≡ count_by is_answered lines.now.items }
 {
     lines.iter().filter(|line| line.reply.is_some()).count()
 }
 
-fn open_calls(lines: &[Line]) -> usize
-    ensures { result ≡ count_by is_open lines.now }
+fn open_calls(lines: &Lines) -> usize
+    ensures { result ≡ count_by is_open lines.now.items }
 {
     lines.iter().filter(|line| line.reply.is_none()).count()
 }
@@ -368,24 +282,21 @@ fn open_calls(lines: &[Line]) -> usize
 fn is_change_line(line: &Line) -> bool
     ensures { result ≡ is_changed line.now }
 {
-    match line.reply {
-        Some(reply) => matches!(
-            reply,
-            Reply::Inserted | Reply::Updated(_) | Reply::Deleted(_)
-        ),
+    match &line.reply {
+        Some(reply) => reply.is_change(),
         None => false,
     }
 }
 
-fn changing_calls(lines: &[Line]) -> usize
-    ensures { result ≡ count_by is_changed lines.now }
+fn changing_calls(lines: &Lines) -> usize
+    ensures { result ≡ count_by is_changed lines.now.items }
 {
     lines.iter().filter(|line| is_change_line(line)).count()
 }
 
 // Appends the last line.
-fn put_end(out: &mut Text, lines: &[Line], next: &Nexts) -> Result<(), AllocError>
-    ensures { OnOk result (out.new.items ≡ out.old.items ++ end_line lines.now next.now) }
+fn put_end(out: &mut Text, lines: &Lines, next: &Nexts) -> Result<(), AllocError>
+    ensures { OnOk result (out.new.items ≡ out.old.items ++ end_line lines.now.items next.now) }
 {
     out.put_word_number(b"end calls=", answered_calls(lines) as u64)?;
     out.put_word_number(b" open=", open_calls(lines) as u64)?;
@@ -410,8 +321,8 @@ pub fn report_text(
 {
     let mut text = Text::new(alloc);
     put_head(&mut text, mode, script.version())?;
-    put_outcomes(&mut text, script, lines.as_slice())?;
+    put_outcomes(&mut text, script, lines)?;
     put_pairs(&mut text, map)?;
-    put_end(&mut text, lines.as_slice(), &next)?;
+    put_end(&mut text, lines, &next)?;
     Ok(text)
 }

@@ -15,7 +15,7 @@ pub struct Text {
 
 impl Model for Text {
     ghost use Rattle.std.specs.Prelude.{ℕ, ◌-◌, vec_len, vec_capacity};
-    ghost use Rattle.kv_block.specs.RoomyList.{RoomyList};
+    ghost use Rattle.item_list.specs.RoomyList.{RoomyList};
 
     ghost Value = { RoomyList ℕ };
 

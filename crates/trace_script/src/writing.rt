@@ -11,7 +11,7 @@ use crate::script::Script;
 use crate::text::Text;
 use indexmap::IndexMap;
 use kv_block::Key;
-use map_model::{Call, Calls, Item, Items};
+use map_model::{Calls, Item, Items};
 use node_words::Geometry;
 use std::alloc::{AllocError, Global};
 
@@ -37,11 +37,11 @@ impl Text {
     }
 
     // The lines of calls.
-    fn put_call_lines(&mut self, calls: &[Call]) -> Result<(), AllocError>
-        ensures { OnOk result (self.new.items ≡ self.old.items ++ text_of (map call_words calls.now)) }
+    fn put_call_lines(&mut self, calls: &Calls) -> Result<(), AllocError>
+        ensures { OnOk result (self.new.items ≡ self.old.items ++ text_of (map call_words calls.now.items)) }
     {
-        for call in calls {
-            self.put_call(call)?;
+        for call in calls.iter() {
+            self.put_call(&call)?;
             self.push(b'\n')?;
         }
         Ok(())
@@ -52,7 +52,7 @@ impl Text {
         ensures { OnOk result (self.new.items ≡ self.old.items ++ text_of (client_words (name.now, calls.now.items))) }
     {
         self.put_client_line(name)?;
-        self.put_call_lines(calls.as_slice())
+        self.put_call_lines(calls)
     }
 
     // `stop NAME N`
@@ -145,8 +145,7 @@ impl Body {
     fn put_hashes(&self, out: &mut Text) -> Result<(), AllocError>
         ensures { OnOk result (out.new.items ≡ out.old.items ++ text_of (map hash_words self.now.hashes)) }
     {
-        let mut hashes = self.hashes().iter();
-        while let Some((key, hash)) = hashes.next() {
+        for (key, hash) in self.hashes().pairs() {
             out.put_hash_line(key, *hash)?;
         }
         Ok(())

@@ -52,13 +52,13 @@ fn play(
     }
     let changes = log.changes(alloc)?;
     assert_eq!(rt; changes.len(), values.len());
-    for (change, digit) in changes.as_slice().iter().zip(values) {
+    for (change, digit) in changes.iter().zip(values) {
         let key = Key::from_bytes(b"k").ok_or("no key")?;
         let value = match *digit {
             Some(digit) => Some(Value::from_bytes(&[digit]).ok_or("no value")?),
             None => None,
         };
-        assert!(rt; *change == Change { key, value });
+        assert!(rt; change == Change { key, value });
     }
     Ok(())
 }

@@ -1,8 +1,9 @@
-use Rattle.std.proofs.Common.{◌≡◌, ◌+◌, ℕ, length, take, cond, sym, ◌∙◌, ap, subst, arith}
+use Rattle.std.proofs.Common.{◌≡◌, ◌+◌, ◌<◌, ℕ, length, take, cond, sym, ◌∙◌, ap, subst, arith}
 use Rattle.map_model.specs.Machine.{is_change}
 use Rattle.race_play.specs.Holding.{Holds}
 use Rattle.race_play.specs.Replies.{Held, opened, reply_to, held_after}
 use Rattle.race_play.specs.Plays.{held_by}
+use Rattle.item_list.proofs.Pieces.{get_or-there}
 use Rattle.race_play.proofs.Playing.{next_calls, held_by-append, changes-after, lines-next, counted-more, counted-same}
 use Rattle.race_play.proofs.player.play.Goals as goal
 use Rattle.race_play.proofs.player.play.Goals.{then-is_change, else-is_change}
@@ -11,11 +12,13 @@ pub loop-index-preserved : goal.loop-index-preserved
 loop-index-preserved c =
     let n = length c.args.table.now in
     let i = c.loop-index.index in
-    let items = c.as_slice-items.result.now in
-    let call = c.index-items-index.result in
+    let items = c.args.calls.now.items in
+    let call = c.get-call.result in
+    let low : i < length items = omega (arith, c.loop-index-test.true, c.len-count.ensures.value) in
+    let there = get_or-there items i call c.get-call.ensures in
     let inv = c.loop-index.invariant in
     let prior = held_by n opened (take i items) in
-    let taken = next_calls items i call c.loop-index-test.true c.index-items-index.is in
+    let taken = next_calls items i call low there in
     let after_is : held_by n opened (take (i + 1) items) ≡ held_after prior call (reply_to n prior call) =
     ap (held_by n opened) taken ∙ held_by-append n opened (take i items) call in
     let reply_is : c.answer-reply.result ≡ reply_to n prior call =
@@ -33,6 +36,6 @@ loop-index-preserved c =
         | else-is_change w ↦ counted-same _ _ _ _ (sym c.is_change.ensures ∙ w.if-is_change.false) w.changes-is step
       ];
       few = elim c.if-is_change.branch [ then-is_change w ↦ omega (arith, few) | else-is_change w ↦ omega (arith, few) ];
-      lines = lines-next n items i call c.answer-reply.result c.tag_of.result _ _ c.loop-index-test.true c.index-items-index.is inv.lines reply_is
+      lines = lines-next n items i call c.answer-reply.result c.tag_of.result _ _ low there inv.lines reply_is
           (c.tag_of.ensures prior (sym inv.changes)) c.in_ok-push.ensures.appended;
     }

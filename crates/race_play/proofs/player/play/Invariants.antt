@@ -8,8 +8,8 @@ use Rattle.race_play.proofs.player.play.Given as goal
 abbrev pub invariant-loop-index : goal.invariant-loop-index
 invariant-loop-index l = record {
   long : length l.table ≡ length l.fn.table;
-  holds : Holds l.table (held_by (length l.fn.table) opened (take l.index l.items));
-  changes : l.changes ≡ (held_by (length l.fn.table) opened (take l.index l.items)).changes;
+  holds : Holds l.table (held_by (length l.fn.table) opened (take l.index l.calls.items));
+  changes : l.changes ≡ (held_by (length l.fn.table) opened (take l.index l.calls.items)).changes;
   few : l.changes ≤ l.index;
-  lines : l.lines.items ≡ lines_from (length l.fn.table) 1 opened (take l.index l.items);
+  lines : l.lines.items ≡ lines_from (length l.fn.table) 1 opened (take l.index l.calls.items);
 }

@@ -4,7 +4,7 @@ use Rattle.race_play.proofs.refusal.plain_calls.Given as goal
 
 -- the first calls are all counted
 abbrev pub invariant-loop-count : goal.invariant-loop-count
-invariant-loop-count l = (l.count ≤ length l.items) × (plain_calls l.calls.items ≡ plain_calls (drop l.count l.items) + l.count)
+invariant-loop-count l = (l.count ≤ length l.calls.items) × (plain_calls l.calls.items ≡ plain_calls (drop l.count l.calls.items) + l.count)
 
 abbrev pub decreases-loop-count : goal.decreases-loop-count
-decreases-loop-count l = length l.items - l.count
+decreases-loop-count l = length l.calls.items - l.count

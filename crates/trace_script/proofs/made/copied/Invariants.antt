@@ -1,4 +1,4 @@
-use Rattle.std.proofs.Common.{◌≡◌, ◌++◌, drop}
+use Rattle.std.proofs.Common.{◌≡◌, ◌++◌}
 use Rattle.std.specs.List.{AllByRecursion}
 use Rattle.trace_script.specs.Valid.{IsCall}
 use Rattle.trace_script.proofs.made.copied.Given as goal
@@ -6,6 +6,6 @@ use Rattle.trace_script.proofs.made.copied.Given as goal
 -- the calls so far, which are known, and those that are left
 abbrev pub invariant-loop-call : goal.invariant-loop-call
 invariant-loop-call l = record {
-  same : l.copy.items ++ drop l.call-index l.calls ≡ l.calls;
+  same : l.copy.items ++ l.call-iterator ≡ l.calls.items;
   known : AllByRecursion IsCall l.copy.items;
 }

@@ -1,6 +1,6 @@
 use Rattle.std.proofs.Common.{◌≡◌, ◌++◌, drop, map, List}
 use Rattle.std.specs.List.{flat_map}
-use Rattle.kv_block.specs.RoomyList.{RoomyList}
+use Rattle.item_list.specs.RoomyList.{RoomyList}
 use Rattle.map_model.specs.declared.plans.Item.{Item}
 use Rattle.trace_script.proofs.body.Body.items.Given as goal
 

@@ -27,12 +27,12 @@ loop-place-preserved c =
     let plan = c.index-plans-place.result in
     let long = length-take-le place plans (omega arith) in
     let more : take (place + 1) plans ≡ take place plans ++ plan ∷ [] = take_more plans place plan c.loop-place-test.true ∙ ap (λ p. take place plans ++ p ∷ []) (sym c.index-plans-place.is) in
-    let calls = c.in_ok-calls.ensures.same ∙ c.as_slice.ensures in
+    let calls = c.in_ok-calls.ensures.same in
     record {
       made = c.in_ok-add_client.ensures ∙ client-added c.loop-place.body c.in_ok-name.name c.in_ok-calls.calls.items (take place plans) plan place c.loop-place.invariant.made c.in_ok-name.ensures calls long
           ∙ ap (λ ps. made_content ps []) (sym more);
       clients = subst (λ ps. Each (IsClient 16) [] (made_clients 0 ps)) (sym more)
-          (client-known (take place plans) plan place long (omega arith) (subst (AllByRecursion IsCall) c.as_slice.ensures c.in_ok-calls.ensures.known) c.loop-place.invariant.clients);
+          (client-known (take place plans) plan place long (omega arith) c.in_ok-calls.ensures.known c.loop-place.invariant.clients);
     }
 
 pub returns : goal.returns

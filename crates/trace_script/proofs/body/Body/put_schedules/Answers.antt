@@ -1,6 +1,6 @@
 use Rattle.std.proofs.Common.{◌<◌, length, arith}
 use Rattle.std.specs.List.{AllByRecursion}
-use Rattle.kv_block.specs.RoomyList.{RoomyList}
+use Rattle.item_list.specs.RoomyList.{RoomyList}
 use Rattle.map_model.specs.declared.plans.Item.{Item}
 use Rattle.trace_script.specs.ScriptText.{item_client}
 use Rattle.trace_script.proofs.Joined.{first_has}

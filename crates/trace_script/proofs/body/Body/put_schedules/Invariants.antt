@@ -2,7 +2,7 @@ use Rattle.std.proofs.Common.{◌≡◌, ◌++◌, ◌<◌, length, map, drop}
 use Rattle.std.specs.List.{AllByRecursion}
 use Rattle.trace_script.specs.Content.{names_of}
 use Rattle.map_model.specs.declared.plans.Item.{Item}
-use Rattle.kv_block.specs.RoomyList.{RoomyList}
+use Rattle.item_list.specs.RoomyList.{RoomyList}
 use Rattle.trace_script.specs.ScriptText.{schedule_words, item_client, text_of}
 use Rattle.trace_script.proofs.body.Body.put_schedules.Given as goal
 

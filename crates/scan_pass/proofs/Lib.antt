@@ -1,0 +1,4 @@
+mod Levels
+mod Onward
+mod Prints
+mod Rows
