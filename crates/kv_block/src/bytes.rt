@@ -65,8 +65,8 @@ impl Model for Value {
     ghost inverse_ok = { λ k h i. record { bytes = h.1.rest i; len = length-take_filled 1024 k.len k.bytes h.1 i } };
 }
 
-// The bytes at the front of an array of zeros.
-fn padded<const N: usize>(bytes: &[u8]) -> [u8; N]
+/// The bytes at the front of an array of zeros.
+pub fn padded<const N: usize>(bytes: &[u8]) -> [u8; N]
     requires { length bytes.now ≤ N }
     ensures { result ≡ filled N bytes.now }
 {

@@ -16,7 +16,7 @@ pub mod words;
 pub use block::{
     BLOCK_WORDS, Block, block_len, push_block, push_marked_block, read_block, write_block,
 };
-pub use bytes::{KEY_BYTES, Key, VALUE_BYTES, Value};
+pub use bytes::{KEY_BYTES, Key, VALUE_BYTES, Value, padded};
 pub use changes::{Change, Changes};
 pub use reading::{block_key, block_value, has_key};
 pub use value_words::{push_value, value_of_words};

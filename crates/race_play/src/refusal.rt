@@ -11,10 +11,8 @@ use key_hash::Listed;
 use map_model::{Call, Calls, Items};
 use node_words::Geometry;
 use std::alloc::{AllocError, Global};
+use trace_script::limits::MOST_CALLS;
 use trace_script::{Script, ScriptKind, Text, refusal_text};
-
-/// The most calls of a script.
-const MOST_CALLS: usize = 65_536;
 
 /// A line of a script, counted from 1 or 0 where there are too many bytes, and why it is refused.
 #[derive(Clone, Copy, Debug, PartialEq, Eq)]
@@ -78,7 +76,7 @@ fn is_plain_content(script: &Script, listed: &Listed, items: &Items) -> bool
         && script.clients() == 1
         && script.stop(0).is_none()
         && items.len() == 0
-        && script.calls(0).len() <= MOST_CALLS
+        && script.calls(0).len() <= MOST_CALLS as usize
         && are_plain(script.calls(0))
 }
 

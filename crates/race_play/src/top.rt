@@ -8,6 +8,7 @@ use crate::player::{PlayFault, replay_text};
 use crate::refusal::Refusal;
 use race_io::{Sink, Source, TakeFault, put_all, take_all};
 use std::alloc::Global;
+use trace_script::limits::MOST_BYTES;
 
 /// How a call of the program ended.
 #[derive(Clone, Copy, Debug, PartialEq, Eq)]
@@ -18,7 +19,7 @@ pub struct Ended {
 }
 
 /// The most bytes that are read: one more than a script may have.
-const MOST_BYTES: u64 = 4_194_305;
+const MOST_READ: u64 = MOST_BYTES as u64 + 1;
 
 // Whether the words are the command `replay`.
 fn is_replay(words: &[&str]) -> bool
@@ -89,7 +90,7 @@ pub fn race<S: Source, K: Sink>(
     if !is_replay(words) {
         return Ended { status: 2 };
     }
-    let bytes = match take_all(alloc, source, MOST_BYTES) {
+    let bytes = match take_all(alloc, source, MOST_READ) {
         Ok(bytes) => bytes,
         Err(TakeFault::Failed) => return Ended { status: 4 },
         Err(TakeFault::OutOfMemory) => return Ended { status: 6 },

@@ -112,13 +112,22 @@ chunk-empty c e = let n : length c.items ≡ 0 = ap (λ (ys : List ℕ). length 
 pub whole-empty : (xs : List (Vec ℕ Global)) → All IsEmpty xs → All IsChunk xs
 whole-empty xs h j d l = chunk-empty (get_or xs j d) (h j d l)
 
-pub empty-more : (xs : List (Vec ℕ Global)) (c : Vec ℕ Global) → All IsEmpty xs → c.items ≡ [] → All IsEmpty (xs ++ c ∷ [])
-empty-more [] c h e zero d l = e
-empty-more [] c h e (suc j) d l = absurd (omega arith)
-empty-more (x ∷ xs) c h e zero d l = h 0 d (omega arith)
-empty-more (x ∷ xs) c h e (suc j) d l = empty-more xs c (λ i f m. h (suc i) f (omega arith)) e j d (omega arith)
+-- one chunk more behind the others, which is empty
+pub word-more : (xs : List (Vec ℕ Global)) (c : Vec ℕ Global) (i k : ℕ) → c.items ≡ [] → chunk_word (slice_get (xs ++ c ∷ []) i) k ≡ chunk_word (slice_get xs i) k
+word-more [] c zero k e = ap (λ (ys : List ℕ). get_or ys k 0) e
+word-more [] c (suc i) k e = refl
+word-more (x ∷ xs) c zero k e = refl
+word-more (x ∷ xs) c (suc i) k e = word-more xs c i k e
 
-pub ruleset empties = (zero-there, whole-empty, empty-more)
+pub whole-more : (xs : List (Vec ℕ Global)) (c : Vec ℕ Global) → All IsChunk xs → c.items ≡ [] → All IsChunk (xs ++ c ∷ [])
+whole-more [] c h e zero d l = chunk-empty c e
+whole-more [] c h e (suc j) d l = absurd (omega arith)
+whole-more (x ∷ xs) c h e zero d l = h 0 d (omega arith)
+whole-more (x ∷ xs) c h e (suc j) d l = whole-more xs c (λ i f m. h (suc i) f (omega arith)) e j d (omega arith)
+
+pub ruleset empties = (zero-there, whole-empty)
+
+pub ruleset reaches = (word-more, whole-more)
 
 pub ruleset opens = (opened)
 

@@ -4,44 +4,48 @@ ghost use Rattle.sparse_words.specs.Chunks.{IsChunk, IsZero, IsEmpty};
 
 use std::alloc::{AllocError, Global};
 
-// Chunks of 4,096 words, of which those that nothing was put into are empty, and a chunk of zeros to spare, or none.
+// Chunks of 4,096 words, of which those that nothing was put into are empty or behind the last one that is told, and a chunk of
+// zeros to spare, or none.
 #[derive(Debug, Drop)]
 pub struct Chunks {
+    alloc: Global,
     chunks: Vec<Vec<u64>>,
     spare: Vec<u64>,
     ghost whole: { All IsChunk chunks.items },
     ghost ready: { IsChunk spare × All IsZero spare.items },
 }
 
-// So many chunks that nothing was put into.
-#[tactic(auto, using(crate::proofs::ChunkWords::empties))]
-fn empty_chunks(alloc: Global, count: usize) -> Result<Vec<Vec<u64>>, AllocError>
-    ensures len { IfOk result (λ v. length v.items ≡ count) }
-    ensures empty { IfOk result (λ v. All IsEmpty v.items) }
-{
-    let mut chunks = Vec::with_capacity(alloc, count)?;
-    for _ in 0..count {
-        chunks.push(Vec::new(alloc))?;
-    }
-    Ok(chunks)
-}
-
 impl Chunks {
-    ghost use Rattle.std.specs.Prelude.{ℕ, ◌+◌, ◌*◌, ◌/◌, ◌%◌, ◌<◌, ◌==◌, if◌then◌else◌, Vec, [], Some, slice_get, OnOk, OnErr, IsOk};
+    ghost use Rattle.std.specs.Prelude.{ℕ, ◌+◌, ◌*◌, ◌/◌, ◌%◌, ◌<◌, ◌≤◌, ◌==◌, if◌then◌else◌, Vec, vec_capacity, [], Some, slice_get, OnOk, OnErr, IsOk};
     ghost use Rattle.std.specs.declared.alloc.Global.{Global};
     ghost use Rattle.sparse_words.specs.Stored.{word_of};
 
-    // Words that are all 0, for addresses below `len`, and no spare chunk.
+    // Words that are all 0, with room to tell of the chunks of addresses below `len`, and no spare chunk.
     #[tactic(auto, using(crate::proofs::ChunkWords::empties))]
     pub fn zeroed(alloc: Global, len: u64) -> Result<Chunks, AllocError>
         ensures zero { IfOk result (λ c. (a : ℕ) → word_of c a ≡ 0) }
-        ensures wide { IfOk result (λ c. len < 4096 * length c.chunks.items) }
+        ensures wide { IfOk result (λ c. len < 4096 * vec_capacity c.chunks) }
         ensures spare { IfOk result (λ c. c.spare.items ≡ []) }
     {
         Ok(Chunks {
-            chunks: empty_chunks(alloc, (len / 4096 + 1) as usize)?,
+            alloc,
+            chunks: Vec::with_capacity(alloc, (len / 4096 + 1) as usize)?,
             spare: Vec::new(alloc),
         })
+    }
+
+    // Tells of the chunks up to this one, of which there is room to tell. It takes no memory.
+    #[tactic(auto, using(crate::proofs::ChunkWords::reaches))]
+    fn reach(&mut self, i: usize)
+        requires { i < vec_capacity self.old.chunks }
+        ensures words { (a : ℕ) → word_of self.new a ≡ word_of self.old a }
+        ensures told { i < length self.new.chunks.items }
+        ensures capacity { vec_capacity self.old.chunks ≤ vec_capacity self.new.chunks }
+        ensures spare { self.new.spare ≡ self.old.spare }
+    {
+        while self.chunks.len() <= i {
+            self.chunks.push_reserved(Vec::new(self.alloc));
+        }
     }
 
     // Makes the spare chunk, where there is none. A refusal changes nothing.
@@ -71,7 +75,7 @@ impl Chunks {
         }
     }
 
-    // Makes the chunk of an address, where nothing was put into it, of the spare one.
+    // Makes the chunk of an address that is told, where nothing was put into it, of the spare one.
     #[tactic(auto, using(crate::proofs::ChunkWords::opens))]
     fn open(&mut self, at: u64)
         requires place { at / 4096 < length self.old.chunks.items }
@@ -79,6 +83,7 @@ impl Chunks {
         ensures words { (a : ℕ) → word_of self.new a ≡ word_of self.old a }
         ensures there { (c : Vec ℕ Global) → slice_get self.new.chunks.items (at / 4096) ≡ Some c → length c.items ≡ 4096 }
         ensures len { length self.new.chunks.items ≡ length self.old.chunks.items }
+        ensures capacity { vec_capacity self.old.chunks ≤ vec_capacity self.new.chunks }
     {
         let i = (at / 4096) as usize;
         if self.chunks[i].is_empty() {
@@ -92,18 +97,19 @@ impl Chunks {
         requires place { at / 4096 < length self.old.chunks.items }
         requires there { (c : Vec ℕ Global) → slice_get self.old.chunks.items (at / 4096) ≡ Some c → length c.items ≡ 4096 }
         ensures words { (a : ℕ) → word_of self.new a ≡ (if a == at then word else word_of self.old a) }
-        ensures len { length self.new.chunks.items ≡ length self.old.chunks.items }
+        ensures capacity { vec_capacity self.old.chunks ≤ vec_capacity self.new.chunks }
     {
         self.chunks[(at / 4096) as usize][(at % 4096) as usize] = word;
     }
 
-    // Puts a word at an address. It takes no memory.
+    // Puts a word at an address of whose chunk there is room to tell. It takes no memory.
     pub fn put(&mut self, at: u64, word: u64)
-        requires place { at / 4096 < length self.old.chunks.items }
+        requires place { at / 4096 < vec_capacity self.old.chunks }
         requires spare { length self.old.spare.items ≡ 4096 }
         ensures words { (a : ℕ) → word_of self.new a ≡ (if a == at then word else word_of self.old a) }
-        ensures len { length self.new.chunks.items ≡ length self.old.chunks.items }
+        ensures capacity { vec_capacity self.old.chunks ≤ vec_capacity self.new.chunks }
     {
+        self.reach((at / 4096) as usize);
         self.open(at);
         self.put_there(at, word);
     }

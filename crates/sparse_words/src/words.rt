@@ -12,7 +12,7 @@ pub struct SparseWords {
 }
 
 impl Model for SparseWords {
-    ghost use Rattle.std.specs.Prelude.{◌*◌, ◌≤◌, length};
+    ghost use Rattle.std.specs.Prelude.{◌*◌, ◌≤◌, length, vec_capacity};
     ghost use Rattle.sparse_words.specs.Words.{Words, listed, room_of};
     ghost use Rattle.sparse_words.specs.Stored.{word_of};
 
@@ -20,7 +20,7 @@ impl Model for SparseWords {
 
     ghost view = { λ words. record { items = listed words.len (word_of words.chunks); room = room_of words.chunks.spare.items } };
 
-    ghost invariant = { λ words. words.len ≤ 4096 * length words.chunks.chunks.items };
+    ghost invariant = { λ words. words.len ≤ 4096 * vec_capacity words.chunks.chunks };
 }
 
 impl SparseWords {

@@ -9,13 +9,11 @@ ghost use Rattle.trace_script.specs.Gives.{Gives};
 use crate::body::Body;
 use crate::command::Command;
 use crate::fault::{Halt, ScriptFault, ScriptKind};
+use crate::limits::MOST_CALLS;
 use crate::word::{cut, one_word, read_key, read_value, two_words};
 use kv_block::{Key, Value};
 use map_model::Call;
 use std::alloc::{AllocError, Global};
-
-/// The most call lines of a script.
-const MOST_CALLS: u32 = 65_536;
 
 // What has been read of the lines behind line 2.
 #[derive(Drop)]

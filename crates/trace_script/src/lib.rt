@@ -12,6 +12,7 @@ mod body;
 mod command;
 mod draft;
 mod fault;
+pub mod limits;
 mod line_words;
 mod lines;
 mod made;

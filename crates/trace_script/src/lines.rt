@@ -7,16 +7,11 @@ ghost use Rattle.trace_script.specs.Gives.{Gives};
 
 use crate::body::Body;
 use crate::fault::{Halt, ScriptKind};
+use crate::limits::{MOST_COUNT, MOST_VERBS};
 use crate::name::{Name, is_byte_of_name};
 use crate::word::{cut, one_word, read_hex_number, read_key, read_number, two_words};
 use map_model::{Calls, Item, Items};
 use std::alloc::{AllocError, Global};
-
-/// The greatest stop.
-const MOST_VERBS: u64 = 1_000_000_000;
-
-/// The greatest count of an item.
-const MOST_COUNT: u64 = 1_000_000;
 
 impl Body {
     // `hash KEY HEX`

@@ -6,14 +6,12 @@ ghost use Rattle.trace_script.specs.Valid.{Each, IsCall, IsClient, IsItem};
 ghost use Rattle.trace_script.specs.Made.{made_clients, made_content, made_schedules, made_script, planned_calls};
 
 use crate::body::Body;
+use crate::limits::LINE_ITEMS;
 use crate::name::Name;
 use crate::script::Script;
 use map_model::{Call, Calls, Item, Items, Plan, Plans};
 use node_words::Geometry;
 use std::alloc::{AllocError, Global};
-
-/// How many items a schedule line has, but for the last one.
-const LINE_ITEMS: usize = 64;
 
 // What is known of every call: its key and its value are within their lengths.
 fn is_call(call: &Call)

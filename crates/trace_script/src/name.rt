@@ -7,12 +7,12 @@ ghost use Rattle.std.specs.Cmp.Rules.{hashing};
 ghost use Rattle.std.specs.Hash as fed;
 ghost use Rattle.std.specs.List.{list_all};
 ghost use Rattle.std.proofs.Common.{rules};
-ghost use Rattle.kv_block.specs.Filled.{filled};
 ghost use Rattle.kv_block.specs.Bytes.{key_eq};
 ghost use Rattle.trace_script.specs.Spelling.{is_name_byte, is_small};
 ghost use Rattle.trace_script.specs.Words.{is_name};
 ghost use Rattle.trace_script.specs.Made.{made_name};
 
+use kv_block::padded;
 use std::alloc::{AllocError, Global};
 use std::hash::{Hash, Hasher};
 use std::marker::Model;
@@ -70,16 +70,6 @@ fn is_name_text(bytes: &[u8]) -> bool
             is_small_letter(*first) && all_of_name(others) && others.len() < NAME_BYTES
         }
     }
-}
-
-// The bytes at the front of an array of zeros.
-fn padded<const N: usize>(bytes: &[u8]) -> [u8; N]
-    requires { length bytes.now ≤ N }
-    ensures { result ≡ filled N bytes.now }
-{
-    let mut all = [0; N];
-    all[..bytes.len()].copy_from_slice(bytes);
-    all
 }
 
 impl Name {

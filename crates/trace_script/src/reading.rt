@@ -10,23 +10,12 @@ ghost use Rattle.trace_script.specs.Gives.{Tells, Reads, told_of};
 use crate::body::Body;
 use crate::draft::{Draft, Step};
 use crate::fault::{ScriptFault, ScriptKind};
+use crate::limits::{MOST_BYTES, MOST_CLIENTS_1, MOST_CLIENTS_2, MOST_LINE_BYTES};
 use crate::script::Script;
 use crate::table::{read_table, read_version};
 use crate::word::cut;
 use node_words::Geometry;
 use std::alloc::Global;
-
-/// The most bytes of a script.
-const MOST_BYTES: usize = 4_194_304;
-
-/// The most bytes of a line, without its line feed.
-const MOST_LINE_BYTES: usize = 4_096;
-
-/// The most clients of a `race 1` script.
-const MOST_CLIENTS_1: u32 = 16;
-
-/// The most clients of a `race 2` script.
-const MOST_CLIENTS_2: u32 = 64;
 
 // The first line of the bytes, and what stands behind its line feed.
 fn next_line(bytes: &[u8]) -> Result<(&[u8], &[u8]), ScriptKind>

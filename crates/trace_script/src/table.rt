@@ -8,17 +8,9 @@ ghost use Rattle.trace_script.specs.Gives.{Tells};
 
 use crate::command::is_text;
 use crate::fault::ScriptKind;
+use crate::limits::{MOST_DEPTH_1, MOST_DEPTH_2, MOST_TRIES};
 use crate::word::{cut, read_number};
 use node_words::Geometry;
-
-/// The greatest depth of a `race 1` script.
-const MOST_DEPTH_1: u64 = 12;
-
-/// The greatest depth of a `race 2` script.
-const MOST_DEPTH_2: u64 = 16;
-
-/// The most tries.
-const MOST_TRIES: u64 = 64;
 
 // `race 1` or `race 2`
 pub fn read_version(line: &[u8]) -> Result<u32, ScriptKind>
