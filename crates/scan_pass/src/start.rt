@@ -20,18 +20,27 @@ impl Pass {
     /// It means the text of the pass, and ends within P verbs whatever is answered; a sweep within 138 verbs more for each
     /// swap that it may lose but for one. Of a sweep the table is the one that has the own slot, and `left` is at least 1.
     #[tactic(auto, using(pass_text::proofs::Bounds::bounds))]
-    pub fn start(geometry: Geometry, entry: Option<u64>, key: &Key, hash: u64, mode: PassMode) -> Pass
+    pub fn start(
+        geometry: Geometry,
+        entry: Option<u64>,
+        key: &Key,
+        hash: u64,
+        mode: PassMode,
+    ) -> Pass
         ensures rest { pass_rest result ≡ pass (record { geometry = geometry; key = key.now; hash = hash; mode = mode }) entry }
         ensures job { result.task.job ≡ record { geometry = geometry; key = key.now; hash = hash; mode = mode } }
         ensures within { Within (pass_verbs (record { geometry = geometry; key = key.now; hash = hash; mode = mode })) (pass_rest result) }
         ensures waits { IsSome (next_act (pass_rest result)) }
     {
-        Pass::of(Job {
-            geometry,
-            key: *key,
-            hash,
-            mode,
-        }, entry)
+        Pass::of(
+            Job {
+                geometry,
+                key: *key,
+                hash,
+                mode,
+            },
+            entry,
+        )
     }
 
     // The pass of a job.
