@@ -6,7 +6,7 @@ use Rattle.slot_word.specs.declared.births.Birth.{Birth}
 use Rattle.bucket_group.specs.ExitLevel.{bit_of, exit_level}
 use Rattle.bucket_group.proofs.ExitLaws.{exit-some, exit-none, exit-below, exit_suffix, low_same}
 use Rattle.verb_log.specs.Decoded.{Header, PlainAt, SplittingAt, FillingAt, NoHeader}
-use Rattle.verb_log.specs.Tables.{Past, Before}
+use Rattle.verb_log.specs.Tables.{Past, Before, word_at}
 use Rattle.race_laws.specs.Setting.{Setting, hash, main_of}
 use Rattle.race_laws.specs.Standing.{IsTable, birth_in, key_header, depth, IsGone, Stays}
 use Rattle.race_laws.specs.Chains as chains
@@ -24,7 +24,7 @@ use Rattle.log_facts.proofs.Starts.{start_table}
 use Rattle.log_facts.proofs.Keys.{main_below}
 use Rattle.log_facts.proofs.Buckets.{bucket_depth, bucket_from}
 use Rattle.log_facts.proofs.Heads.{bucket_valid}
-use Rattle.log_facts.proofs.Directory.{first_birth_is}
+use Rattle.log_facts.proofs.Directory.{bits, birth_small, first_birth_is}
 
 -- the suffix of a table on the chain of a hash is that of the hash
 pub chain_suffix : (s : Setting) (q : Past) → Legal s q → (h t : ℕ) → OnChain s.geometry q h t → (birth_in s.geometry q t).suffix ≡ h % 2 ^ born_at s.geometry q t
@@ -80,3 +80,10 @@ aimed s key {at = at} bf l t hd st e stays =
   where
     plus : (b d : ℕ) → b ≤ d → b + (d - b) ≡ d
     plus b d k = omega arith
+
+-- a key leaves a table at a level exactly where its hash has the suffix of the child of that level
+pub suffix_leaves : (s : Setting) (q : Past) (h t d : ℕ) → born_at s.geometry q t ≤ d → d < 16 → h % 2 ^ (d + 1) ≡ (birth_in s.geometry q t).suffix + 2 ^ d → exit_level h (born_at s.geometry q t) ≡ Some d
+suffix_leaves s q h t d from low e = (bits h (born_at s.geometry q t) d (birth_in s.geometry q t).suffix from low (birth_small (word_at s.geometry q t)) e).0
+
+pub leaves_suffix : (s : Setting) (q : Past) → Legal s q → (h t d : ℕ) → OnChain s.geometry q h t → exit_level h (born_at s.geometry q t) ≡ Some d → h % 2 ^ (d + 1) ≡ (birth_in s.geometry q t).suffix + 2 ^ d
+leaves_suffix s q l h t d ch ex = exit_suffix h (born_at s.geometry q t) d ex ∙ ap (λ v. v + 2 ^ d) (sym (chain_suffix s q l h t ch))

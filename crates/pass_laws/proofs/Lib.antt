@@ -2,6 +2,7 @@ pub mod ListPass
 pub mod ListEnd
 pub mod Bridge
 pub mod Rules
+pub mod Keeping
 pub mod Blocks
 pub mod TableAddress
 pub mod Seen

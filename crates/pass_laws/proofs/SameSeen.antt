@@ -148,7 +148,7 @@ module _ (j : Job) (o : Opened) where
   left_lost (Sweep own n) lost left h = h.0
   left_lost Walk lost left h = tt
 
-  -- what the machine remembers, and what the text has seen, up to candidate i of a table
+  -- what the text remembers, and what the pass over lists has seen, up to candidate i of a table
   pub record Rel (s : m.Seen) (before : Option Seen) (t born : ℕ) (seen : List Shown) (i left : ℕ) : Type 0 where
     pub table : s.table ≡ t
     pub is_born : s.birth_depth ≡ born

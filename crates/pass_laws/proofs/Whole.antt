@@ -35,7 +35,8 @@ use Rattle.pass_text.specs.Words.{address_of, head_in, directory_word}
 use Rattle.pass_text.specs.Pass.{opened_at, on_header, at_table, pass}
 use Rattle.verb_log.specs.Changes.{changes_by}
 use Rattle.log_facts.specs.Beside.{mild, uses_lock}
-use Rattle.pass_laws.specs.SafeIn.{SafeBy, Calmly, SafeIn, Drops}
+use Rattle.pass_laws.specs.SafeIn.{SafeBy, Calmly, SafeIn}
+use Rattle.pass_laws.specs.Drops.{Drops}
 use Rattle.pass_laws.specs.HasPassed as told
 use Rattle.pass_laws.specs.HasPassed.{HasPassed}
 use Rattle.pass_laws.specs.Law.{MayBegin, IsJobOf, PassIsSafe}
@@ -43,6 +44,7 @@ use Rattle.pass_laws.proofs.ListPass.{Mode, look, sweep, walk, Shown, How, held,
 use Rattle.pass_laws.proofs.ListEnd as lists
 use Rattle.pass_laws.proofs.ListEnd.{Saw, HasLeft, Dropping}
 use Rattle.pass_laws.proofs.Bridge.{safe_in_order}
+use Rattle.pass_laws.proofs.Keeping.{drop_calmly}
 use Rattle.pass_laws.proofs.Rules.{by_weaker, by_end, by_kept}
 use Rattle.pass_laws.proofs.TableAddress.{table_address}
 use Rattle.pass_laws.proofs.Searching.{Own, all_searches, own_before, by_start_safe}
@@ -231,12 +233,6 @@ pass_safe s c j job start q l b = by j.mode refl start b
     by Walk e (Some t) b = cached_safe s c j job walk 1 (subst (λ v. SameMode v walk 1) (sym e) (omega arith)) (omega arith) q t q here l b tt
     by (Sweep own n) e None b = absurd b
     by (Sweep own n) e (Some t) b = cached_safe s c j job (sweep t b.2.0) n (subst (λ v. SameMode v (sweep t b.2.0) n) (sym e) (b.2.2, refl, b.1)) b.1 q t q here l (on_chain t b.0) (refl, b.0, b.2.1)
-
--- a drop changes nothing in the map, and uses no lock
-pub drop_calmly : (s : Setting) (c : ℕ) (pm : PassMode) (q : Past) (e : Entry) → Drops pm s c q e → Calmly s c q e
-drop_calmly s c Look q e d = absurd d
-drop_calmly s c (Sweep own n) q e d = (ap (changes_by s.geometry q e) d.0, mild (ap uses_lock d.0))
-drop_calmly s c Walk q e d = absurd d
 
 -- .. as part of a call
 pub pass_calm : (s : Setting) (c : ℕ) (j : Job) → IsJobOf s j → (start : Option ℕ) (q : Past) → Legal s q → MayBegin s j.key j.mode q start → SafeIn s c q (pass j start) (λ y p. HasPassed s j.key j.mode q y p)

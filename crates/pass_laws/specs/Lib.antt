@@ -1,3 +1,4 @@
 pub mod SafeIn
+pub mod Drops
 pub mod HasPassed
 pub mod Law

@@ -6,10 +6,6 @@ use Rattle.verb_log.specs.declared.entry.Verb.{Verb}
 use Rattle.verb_log.specs.declared.entry.Verb.TheVariants.{Read, Write, Swap}
 use Rattle.verb_log.specs.Tables.{Past, word_at}
 use Rattle.log_facts.specs.Since.{change_in, Since}
-use Rattle.verb_log.specs.declared.kind.Kind.TheVariants.{Drop}
-use Rattle.verb_log.specs.Kinds.{kind}
-use Rattle.pass_text.specs.declared.job.PassMode.{PassMode}
-use Rattle.pass_text.specs.declared.job.PassMode.TheVariants.{Look, Sweep, Walk}
 use Rattle.verbs.specs.Programs.{do_verb, ask_hash, Prog, ret, ask}
 use Rattle.verbs.specs.Logs.{place_of}
 use Rattle.race_laws.specs.Setting.{Setting, hash}
@@ -50,9 +46,3 @@ Calmly s c q e = Unchanging s c q e × Beside s c q e
 -- on a log a program is safe whose entries change nothing in the map and use no lock
 abbrev pub SafeIn : {A : Type 0} → Setting → ℕ → Past → Prog A → (Past → A → Type 0) → Type 0
 SafeIn s c p prog End = SafeBy Calmly s c p prog End
-
--- a pass's own entries: the drops of a sweep
-abbrev pub Drops : PassMode → Rule
-Drops Look s c q e = ⊥
-Drops (Sweep own left) s c q e = (kind s.geometry q e ≡ Some Drop) × (e.new ≡ 0)
-Drops Walk s c q e = ⊥
