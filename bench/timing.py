@@ -14,8 +14,8 @@ def program(name="race_cli"):
     if len(sys.argv) > 1:
         return sys.argv[1]
     crate = os.path.join(HERE, "../crates", name)
-    if name == "race_cli":  # without words it ends with status 2
-        built = subprocess.run([os.path.join(HERE, "../race")], stdin=subprocess.DEVNULL).returncode == 2
+    if name == "race_cli":  # an empty script is refused, with status 3
+        built = subprocess.run([os.path.join(HERE, "../race"), "replay"], stdin=subprocess.DEVNULL, stdout=subprocess.DEVNULL).returncode == 3
     else:
         print("building " + name, file=sys.stderr)
         built = subprocess.run(["rt", "run"], cwd=crate, stdin=subprocess.DEVNULL, capture_output=True).returncode == 0
