@@ -16,7 +16,7 @@ use slot_word::{Mark, Slot, pack, read_slot};
 use std::alloc::{AllocError, Global};
 use std::{env, io};
 use verb_log::Verb;
-use verbs::{Machine, PlainNode, perform};
+use verbs::{Machine, PlainNode, Verbs, perform};
 
 /// The one table: behind the next word, the depth and one directory word.
 const TABLE: u64 = 3;
@@ -120,7 +120,25 @@ fn filled(alloc: Global, geometry: Geometry, keys: &[Key]) -> Result<PlainNode, 
     Ok(node)
 }
 
-// Runs a look to its end: how many verbs it had.
+// The word that a verb reads. None where it is no read of a word of the memory.
+#[inline(always)]
+fn word_read(node: &mut PlainNode, verb: &Verb) -> Option<u64>
+    requires { node.old.log.geometry.words ≡ 4_096 }
+    ensures { node.new.log.geometry ≡ node.old.log.geometry }
+{
+    match *verb {
+        Verb::Read { at } if at < WORDS => {
+            if node.reserve().is_err() {
+                return None;
+            }
+            Some(node.read(at))
+        }
+        _ => None,
+    }
+}
+
+// Runs a look, which only reads, to its end: how many verbs it had.
+#[inline(always)]
 fn run(node: &mut PlainNode, pass: &mut Pass) -> u64
     requires { node.old.log.geometry.words ≡ 4_096 }
     ensures { node.new.log.geometry ≡ node.old.log.geometry }
@@ -129,7 +147,7 @@ fn run(node: &mut PlainNode, pass: &mut Pass) -> u64
         let Some(verb) = pass.next() else {
             return verbs;
         };
-        let Some(word) = done(node, &verb) else {
+        let Some(word) = word_read(node, &verb) else {
             return verbs;
         };
         pass.feed(word);

@@ -1,5 +1,5 @@
 -- The level at which a key leaves a table: it is below 16, and `leaves` answers it.
-use Rattle.std.proofs.Common.{◌≡◌, ◌∙◌, ℕ, ◌<◌, ◌≤◌, Bool, true, false, Some, None, refl, sym, ap, arith}
+use Rattle.std.proofs.Common.{◌≡◌, ◌∙◌, ℕ, ◌<◌, Bool, true, false, Some, None, refl, sym, ap, arith}
 use Rattle.std.specs.Prelude.{Option, cond, ◌↔◌, IfSome}
 use Rattle.std.proofs.lemmas.Bool.Decides.{nat_tests}
 use Rattle.slot_word.specs.declared.heads.Head.{Head}

@@ -1,6 +1,6 @@
 -- A word with another fingerprint is passed over.
-use Rattle.std.specs.Prelude.{◌≡◌, ◌≢◌, ℕ, ◌+◌, ◌/◌, ◌^◌, ◌<◌, ◌==◌, ◌&&◌, ◌%◌, if◌then◌else◌, Bool, true, false, Option, Some, None, refl}
-use Rattle.std.proofs.Common.{sym, ap, ◌∙◌, arith, nat_eq}
+use Rattle.std.specs.Prelude.{◌≡◌, ◌≢◌, ℕ, ◌/◌, ◌^◌, ◌==◌, ◌%◌, if◌then◌else◌, Bool, true, false, Option, Some, None, refl}
+use Rattle.std.proofs.Common.{sym, ap, ◌∙◌, arith}
 use Rattle.std.proofs.lemmas.Bool.Decides.{nat_tests}
 use Rattle.verbs.specs.Programs.{Prog}
 use Rattle.slot_word.specs.declared.slots.Slot.{Slot}

@@ -2,7 +2,6 @@
 use Rattle.std.specs.Prelude.{◌≡◌, ℕ, ◌+◌, ◌<◌, List, length, take, slice_index, refl}
 use Rattle.std.proofs.Common.{sym, ap, ◌∙◌, get_or, arith}
 use Rattle.std.proofs.lemmas.List.{get_or-take}
-use Rattle.node_words.specs.Addresses.{slot_at, bucket_header_at}
 use Rattle.pass_text.specs.declared.job.Job.{Job}
 use Rattle.pass_text.specs.Words.{count, count_in, candidate_at, key_header_at}
 use Rattle.pass_text.specs.declared.job.PassMode.{PassMode}

@@ -1,5 +1,5 @@
 -- What is left of a pass.
-use Rattle.std.specs.Prelude.{ℕ, ◌+◌, ◌-◌, zero, suc, Option, Some, None}
+use Rattle.std.specs.Prelude.{ℕ, ◌+◌, ◌-◌, zero, suc, None}
 use Rattle.verb_log.specs.declared.entry.Verb.TheVariants.{Read}
 use Rattle.verb_log.specs.Decoded.{birth}
 use Rattle.verbs.specs.Programs.{Prog, ret, ask, do_verb}

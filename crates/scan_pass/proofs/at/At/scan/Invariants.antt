@@ -1,4 +1,4 @@
-use Rattle.std.proofs.Common.{◌≡◌, ◌-◌, ◌≤◌}
+use Rattle.std.proofs.Common.{◌≡◌, ◌-◌}
 use Rattle.scan_pass.specs.Seen.{seen}
 use Rattle.scan_pass.specs.Rest.{onward}
 use Rattle.scan_pass.proofs.at.At.scan.Given as goal
