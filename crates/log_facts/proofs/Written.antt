@@ -19,6 +19,7 @@ use Rattle.race_laws.proofs.SoundStep.{sound}
 use Rattle.log_facts.specs.Mine.{Block}
 use Rattle.log_facts.proofs.Mine.{mine_others, mine_word}
 use Rattle.log_facts.proofs.Taking.{mine_within}
+use Rattle.log_facts.specs.Since.{Since, same, more}
 use Rattle.log_facts.specs.SlotWords.{marked}
 use Rattle.log_facts.proofs.Marks.{Fields, content_marked}
 
@@ -48,6 +49,10 @@ block_others s c at ws q e l o b = record {
   mine = mine_others s q e l c at (length ws) o b.mine;
   written = words_same s.geometry q (e ∷ q) at (length ws) (λ x h k. mine_word s q e l c at (length ws) x o b.mine h k) ∙ b.written;
 }
+
+pub block_since : (s : Setting) (c at : ℕ) (ws : List ℕ) {p q : Past} → Since c p q → Legal s q → Block s c at ws p → Block s c at ws q
+block_since s c at ws same l b = b
+block_since s c at ws (more {q = q} e bf o) l b = block_others s c at ws q e l o (block_since s c at ws bf l.0 b)
 
 -- what the slot words of a written block say
 module _ (s : Setting) (c at : ℕ) (pair : Pair) (ip : IsPair pair) (q : Past) (l : Legal s q) (b : Block s c at (packed pair.key pair.value) q) where
