@@ -1,5 +1,5 @@
 -- What an entry on one word leaves of the others, by the roles of their words. On every legal log.
-use Rattle.std.specs.Prelude.{◌≡◌, ℕ, ◌+◌, ◌*◌, ◌^◌, ◌<◌, ◌∷◌}
+use Rattle.std.specs.Prelude.{◌≡◌, ℕ, ◌*◌, ◌<◌, ◌∷◌}
 use Rattle.std.proofs.Common.{sym, ◌∙◌, ap}
 use Rattle.node_words.specs.Addresses.{header_at, lock_at, child_at, slot_at, bucket_header_at}
 use Rattle.node_words.specs.Roles.{Role, HeaderWord, LockWord, ChildWord, BucketWord, SlotWord}

@@ -1,6 +1,6 @@
 -- Places where a block may be placed: a ready place stays ready, by every legal entry; and where the key's header of a table does not
 -- fill, the table is on the chain and each place is ready. Of every legal log.
-use Rattle.std.specs.Prelude.{◌≡◌, ℕ, ◌+◌, ◌-◌, ◌<◌, ◌≤◌, List, ◌⊎◌}
+use Rattle.std.specs.Prelude.{◌≡◌, ℕ, ◌+◌, ◌-◌, ◌<◌, List, ◌⊎◌}
 use Rattle.std.proofs.Common.{sym, subst, inl, inr, arith, ⊎_elim}
 use Rattle.slot_word.specs.declared.births.Birth.{Birth}
 use Rattle.bucket_group.proofs.ExitLaws.{exit-some, exit-below}
