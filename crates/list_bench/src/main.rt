@@ -1,9 +1,9 @@
 //! Work on lists and blocks, for bench/lists to time.
 //!
 //! The program's one word names the work, and it prints the sum of what the work told: `push_calls` pushes 65,536 short calls
-//! into a list, 20 times, and `push_text` appends their text to a list of bytes; `has_key` compares a key with the words of
-//! 1,024 blocks, 2,000 times over, and `read_block` reads the pair of each and compares its key. With any other word, or none,
-//! it does nothing.
+//! into a list, makes 20 such lists and keeps them, and `push_text` appends their text to lists of bytes; `has_key` compares
+//! a key with the words of 1,024 blocks, 2,000 times over, and `read_block` reads the pair of each and compares its key. With
+//! any other word, or none, it does nothing.
 #![tactic(auto)]
 
 use item_list::{List, words_from};
@@ -92,25 +92,41 @@ fn compare(alloc: Global, by_words: bool) -> Result<u64, AllocError> {
     Ok(sum)
 }
 
-// Does the work that the word names.
-fn work(alloc: Global, word: &str) -> Result<u64, AllocError> {
+// Pushes lists of calls, keeps them, and counts their calls.
+fn push_calls(alloc: Global) -> Result<u64, AllocError> {
+    let mut lists = Vec::new(alloc);
+    for _ in 0..LISTS {
+        lists.push(calls_of(alloc, CALLS)?)?;
+    }
     let mut sum = 0u64;
-    match word {
-        "push_calls" => {
-            for _ in 0..LISTS {
-                sum = sum.wrapping_add(calls_of(alloc, CALLS)?.len() as u64);
-            }
-        }
-        "push_text" => {
-            for _ in 0..LISTS {
-                sum = sum.wrapping_add(text_of(alloc, CALLS)?.len() as u64);
-            }
-        }
-        "has_key" => sum = compare(alloc, true)?,
-        "read_block" => sum = compare(alloc, false)?,
-        _ => {}
+    for list in &lists {
+        sum = sum.wrapping_add(list.len() as u64);
     }
     Ok(sum)
+}
+
+// Appends texts of calls, keeps them, and counts their bytes.
+fn push_text(alloc: Global) -> Result<u64, AllocError> {
+    let mut texts = Vec::new(alloc);
+    for _ in 0..LISTS {
+        texts.push(text_of(alloc, CALLS)?)?;
+    }
+    let mut sum = 0u64;
+    for text in &texts {
+        sum = sum.wrapping_add(text.len() as u64);
+    }
+    Ok(sum)
+}
+
+// Does the work that the word names.
+fn work(alloc: Global, word: &str) -> Result<u64, AllocError> {
+    match word {
+        "push_calls" => push_calls(alloc),
+        "push_text" => push_text(alloc),
+        "has_key" => compare(alloc, true),
+        "read_block" => compare(alloc, false),
+        _ => Ok(0),
+    }
 }
 
 fn main(rt: HostRuntime) -> io::Result<()> {

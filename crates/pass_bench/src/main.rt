@@ -74,7 +74,13 @@ fn insert(node: &mut PlainNode, geometry: &Geometry, key: &Key, at: u64) -> Opti
     let block = write_block(key, &Value::empty());
     for i in 0..block.len() {
         let word = block.word(i);
-        done(node, &Verb::Write { at: at + u64::from(i), word })?;
+        done(
+            node,
+            &Verb::Write {
+                at: at + u64::from(i),
+                word,
+            },
+        )?;
     }
     let slot = Slot {
         mark: Mark::Live,
@@ -85,7 +91,14 @@ fn insert(node: &mut PlainNode, geometry: &Geometry, key: &Key, at: u64) -> Opti
     let candidates = places(geometry, hash);
     for i in 0..candidates.len() {
         let place = slot_at(TABLE, candidates.get(i));
-        let found = done(node, &Verb::Swap { at: place, expected: 0, word: pack(&slot) })?;
+        let found = done(
+            node,
+            &Verb::Swap {
+                at: place,
+                expected: 0,
+                word: pack(&slot),
+            },
+        )?;
         if found == 0 {
             return Some(());
         }

@@ -12,7 +12,7 @@ use Rattle.verb_log.specs.declared.entry.Verb.TheVariants.{Read}
 use Rattle.verb_log.specs.Decoded.{Header, NoHeader, header_of}
 use Rattle.verb_log.specs.Tables.{Past, Before, here, later, word_at}
 use Rattle.verb_log.proofs.Positions.{Before-trans}
-use Rattle.verbs.specs.Programs.{do_verb, ask}
+use Rattle.verbs.specs.Programs.{Prog, do_verb, ask}
 use Rattle.race_laws.specs.Setting.{Setting, hash}
 use Rattle.race_laws.specs.Standing.{header_in, Stays, IsGone}
 use Rattle.race_laws.specs.Looks.{Reading}
@@ -37,7 +37,7 @@ use Rattle.pass_laws.specs.SafeIn.{SafeBy, Calmly, SafeIn}
 use Rattle.pass_laws.specs.Drops.{Drops}
 use Rattle.pass_laws.specs.HasPassed as told
 use Rattle.pass_laws.specs.HasPassed.{HasPassed}
-use Rattle.pass_laws.specs.Law.{MayBegin, IsJobOf, PassIsSafe}
+use Rattle.pass_laws.specs.Law.{MayBegin, IsJobOf, PassIsSafe, IsSafePass}
 use Rattle.pass_laws.proofs.ListPass.{Mode, look, sweep, walk, Shown, How, held, clear, gone, spent, Ended, by_start}
 use Rattle.pass_laws.proofs.ListEnd as lists
 use Rattle.pass_laws.proofs.ListEnd.{Saw, HasLeft, Dropping}
@@ -237,4 +237,10 @@ pub pass_calm : (s : Setting) (c : ℕ) (j : Job) → IsJobOf s j → (start : O
 pass_calm s c j job start q l b = by_weaker (Drops j.mode) s c Calmly (λ x e d. drop_calmly s c j.mode x e d) q (pass j start) (λ y p. HasPassed s j.key j.mode q y p) (λ y p. HasPassed s j.key j.mode q y p) (λ n a h. h) (pass_safe s c j job start q l b)
 
 pub pass_is_safe : PassIsSafe
-pass_is_safe s c j start log l job b = safe_in_order s c log (pass j start) (λ y p. HasPassed s j.key j.mode (reverse log) y p) (pass_calm s c j job start (reverse log) l b)
+pass_is_safe j start s c log l job b = safe_in_order s c log (pass j start) (λ y p. HasPassed s j.key j.mode (reverse log) y p) (pass_calm s c j job start (reverse log) l b)
+
+-- a program that is the pass is safe as the pass is
+pub safe_as_pass : (j : Job) (start : Option ℕ) (program : Prog Passed) → program ≡ pass j start → IsSafePass j start program
+safe_as_pass j start program e = subst (IsSafePass j start) (sym e) (pass_is_safe j start)
+
+pub ruleset plays = (safe_as_pass)

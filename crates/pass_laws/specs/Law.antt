@@ -4,6 +4,7 @@ use Rattle.kv_block.specs.Bytes.{AreBytes}
 use Rattle.node_words.specs.Addresses.{slot_at}
 use Rattle.verb_log.specs.declared.entry.Entry.{Entry}
 use Rattle.verb_log.specs.Tables.{Past}
+use Rattle.verbs.specs.Programs.{Prog}
 use Rattle.verbs.specs.Safe.{Safe}
 use Rattle.race_laws.specs.Setting.{Setting, hash}
 use Rattle.race_laws.specs.Chains.{OnChain}
@@ -14,6 +15,7 @@ use Rattle.log_facts.specs.Among.{quiet_among}
 use Rattle.pass_text.specs.declared.job.Job.{Job}
 use Rattle.pass_text.specs.declared.job.PassMode.{PassMode}
 use Rattle.pass_text.specs.declared.job.PassMode.TheVariants.{Look, Sweep, Walk}
+use Rattle.pass_text.specs.declared.passed.Passed.{Passed}
 use Rattle.pass_text.specs.Pass.{pass}
 use Rattle.pass_laws.specs.HasPassed.{HasPassed}
 
@@ -33,9 +35,13 @@ pub record IsJobOf (s : Setting) (j : Job) : Type 0 where
   pub hash : j.hash ≡ hash s j.key
   pub bytes : AreBytes j.key
 
--- each pass of each client on each legal log: whatever others add between its verbs, each of its entries may follow and changes
--- nothing in the map, each block that it reads is published, and it ends so
+-- a program that plays a pass is safe for each client on each legal log on which the pass may begin: whatever others add between
+-- its verbs, each of its entries may follow and changes nothing in the map, each block that it reads is published, and it ends so
+abbrev pub IsSafePass : Job → Option ℕ → Prog Passed → Type 0
+IsSafePass j start program =
+    (s : Setting) (c : ℕ) (log : List Entry) → IsLegal s log → IsJobOf s j → MayBegin s j.key j.mode (reverse log) start
+    → Safe (quiet_among s c) (hash s) log program (λ log2 p. HasPassed s j.key j.mode (reverse log) (reverse log2) p)
+
+-- each pass is safe
 abbrev pub PassIsSafe : Type 0
-PassIsSafe =
-    (s : Setting) (c : ℕ) (j : Job) (start : Option ℕ) (log : List Entry) → IsLegal s log → IsJobOf s j → MayBegin s j.key j.mode (reverse log) start
-    → Safe (quiet_among s c) (hash s) log (pass j start) (λ log2 p. HasPassed s j.key j.mode (reverse log) (reverse log2) p)
+PassIsSafe = (j : Job) (start : Option ℕ) → IsSafePass j start (pass j start)

@@ -143,11 +143,14 @@ impl Pass {
         ensures { result ≡ outcome_of (pass_rest self.now) }
     {
         match self.at {
-            At::Held => Some(self.ended(PassEnd::Held(Held {
-                at: self.task.candidate(self.scan.table, self.scan.index),
-                word: self.scan.word,
-                value: block_value(self.scan.block.words()),
-            }), self.scan.lost)),
+            At::Held => Some(self.ended(
+                PassEnd::Held(Held {
+                    at: self.task.candidate(self.scan.table, self.scan.index),
+                    word: self.scan.word,
+                    value: block_value(self.scan.block.words()),
+                }),
+                self.scan.lost,
+            )),
             At::Clear => Some(self.ended(PassEnd::Clear, self.scan.lost)),
             At::Gone => Some(self.ended(PassEnd::Gone, self.scan.lost)),
             At::Spent => Some(self.ended(PassEnd::Spent, self.scan.lost + 1)),

@@ -4,6 +4,7 @@ ghost use Rattle.std.specs.Prelude.{◌≡◌, Some, IsSome};
 ghost use Rattle.verbs.specs.Programs.{next_act, Within};
 ghost use Rattle.pass_text.specs.Pass.{pass};
 ghost use Rattle.pass_text.specs.Bound.{pass_verbs};
+ghost use Rattle.pass_laws.specs.Law.{IsSafePass};
 ghost use Rattle.scan_pass.specs.Rest.{pass_rest};
 
 use crate::at::At;
@@ -19,19 +20,31 @@ impl Pass {
     /// A pass for the key with this hash, from the table that the cache names, or from the directory where it names none.
     /// It means the text of the pass, and ends within P verbs whatever is answered; a sweep within 138 verbs more for each
     /// swap that it may lose but for one. Of a sweep the table is the one that has the own slot, and `left` is at least 1.
-    #[tactic(auto, using(pass_text::proofs::Bounds::bounds))]
-    pub fn start(geometry: Geometry, entry: Option<u64>, key: &Key, hash: u64, mode: PassMode) -> Pass
+    /// On each legal log on which it may begin it is safe, whatever others add between its verbs: its drops are legal and
+    /// change nothing in the map, the blocks that it reads are published, and what it tells in the end was so at positions of
+    /// the pass (docs/LAWS.md, "What a pass shows").
+    #[tactic(auto, using(pass_text::proofs::Bounds::bounds, pass_laws::proofs::Whole::plays))]
+    pub fn start(
+        geometry: Geometry,
+        entry: Option<u64>,
+        key: &Key,
+        hash: u64,
+        mode: PassMode,
+    ) -> Pass
         ensures rest { pass_rest result ≡ pass (record { geometry = geometry; key = key.now; hash = hash; mode = mode }) entry }
         ensures job { result.task.job ≡ record { geometry = geometry; key = key.now; hash = hash; mode = mode } }
         ensures within { Within (pass_verbs (record { geometry = geometry; key = key.now; hash = hash; mode = mode })) (pass_rest result) }
         ensures waits { IsSome (next_act (pass_rest result)) }
     {
-        Pass::of(Job {
-            geometry,
-            key: *key,
-            hash,
-            mode,
-        }, entry)
+        Pass::of(
+            Job {
+                geometry,
+                key: *key,
+                hash,
+                mode,
+            },
+            entry,
+        )
     }
 
     // The pass of a job.

@@ -138,7 +138,8 @@ impl Task {
         ensures { result ≡ has_own self.now.job table }
     {
         match self.job.mode {
-            PassMode::Sweep { own, .. } => table <= own && own < table + self.job.geometry.table_words(),
+            PassMode::Sweep { own, .. } => table <= own
+                && own < table + self.job.geometry.table_words(),
             _ => false,
         }
     }

@@ -21,7 +21,9 @@ const CHILD: u64 = 51;
 
 /// The block of `k` and `v` at 48, in the first slot: live, moved and as a copy.
 const LIVE: u64 = 844_424_930_132_016;
+
 const MOVED: u64 = 1_055_531_162_665_008;
+
 const COPY: u64 = 985_162_418_487_344;
 
 /// The same pair in a block at 60, pending.
@@ -157,9 +159,15 @@ fn looks_through_a_split(rt: HostRuntime) -> Result<(), Fail> {
         let mut pass = pass_for(entry, PassMode::Look)?;
         let ran = run(&mut node, &mut pass);
         assert!(rt; ran == Some(verbs), "verbs after {count}");
-        assert!(rt; pass.is_held() && pass.held_at() == at, "holder after {count}");
+        assert!(rt;
+            pass.is_held() && pass.held_at() == at,
+            "holder after {count}"
+        );
         assert!(rt; pass.parent() == parent, "parent after {count}");
-        assert!(rt; pass.held_value().bytes() == b"v".as_slice(), "value after {count}");
+        assert!(rt;
+            pass.held_value().bytes() == b"v".as_slice(),
+            "value after {count}"
+        );
     }
     Ok(())
 }
@@ -184,7 +192,11 @@ fn copies_that_answer(rt: HostRuntime) -> Result<(), Fail> {
         let mut pass = pass_for(Some(TABLE), PassMode::Look)?;
         let ran = run(&mut node, &mut pass);
         assert!(rt; ran == Some(verbs), "verbs at {word} {below}");
-        let at = if pass.is_held() { Some(pass.held_at()) } else { None };
+        let at = if pass.is_held() {
+            Some(pass.held_at())
+        } else {
+            None
+        };
         assert!(rt; at == held, "holder at {word} {below}");
     }
     Ok(())
@@ -206,16 +218,19 @@ fn counts_of_verbs(rt: HostRuntime) -> Result<(), Fail> {
     ];
     for (mode, entry, second, verbs) in rows {
         let mut node = node_after(rt.alloc(), 5)?;
-        for (i, word) in BLOCK.iter().enumerate() {
-            put(&mut node, 60 + i as u64, *word)?;
-        }
+        put(&mut node, 60, BLOCK[0])?;
+        put(&mut node, 61, BLOCK[1])?;
+        put(&mut node, 62, BLOCK[2])?;
         put(&mut node, 26, second)?;
         let mut pass = pass_for(entry, mode)?;
         let ran = run(&mut node, &mut pass);
         assert!(rt; ran == Some(verbs), "{mode:?} {second}");
         let passed = pass.passed().ok_or("no end")?;
         assert!(rt; matches!(passed.end, PassEnd::Clear), "end of {mode:?}");
-        assert!(rt; passed.table == TABLE && passed.opened.is_some(), "{mode:?}");
+        assert!(rt;
+            passed.table == TABLE && passed.opened.is_some(),
+            "{mode:?}"
+        );
         let left = done(&mut node, &Verb::Read { at: 26 });
         let dropped = matches!(mode, PassMode::Sweep { .. });
         assert!(rt; left == Some(if dropped { 0 } else { second }), "{mode:?}");
@@ -223,17 +238,24 @@ fn counts_of_verbs(rt: HostRuntime) -> Result<(), Fail> {
     Ok(())
 }
 
+// The ends of a pass, without what was held.
+#[derive(Clone, Copy, Debug, PartialEq, Eq)]
+enum End {
+    Held,
+    Clear,
+    Gone,
+    Spent,
+}
+
 // Feeds answers while the pass has a verb; how many it took.
 fn fed(pass: &mut Pass, answers: &[u64]) -> usize {
-    let mut count = 0;
-    for &word in answers {
+    for (count, &word) in answers.iter().enumerate() {
         if pass.next().is_none() {
             return count;
         }
         pass.feed(word);
-        count += 1;
     }
-    count
+    answers.len()
 }
 
 // A sweep reads the header, a pending word of the key in the second slot and its block, and its drop finds another word.
@@ -246,27 +268,27 @@ fn lost_drops(rt: HostRuntime) -> Result<(), Fail> {
     let mut gone = [0; 21];
     gone[0] = PENDING;
     gone[20] = 512;
-    let rows: [(u32, &[u64], usize, &str); 5] = [
-        (1, &clear, 1, "spent"),
-        (2, &clear, 21, "clear"),
-        (2, &held, 4, "held"),
-        (2, &again, 5, "spent"),
-        (2, &gone, 21, "gone"),
+    let rows: [(u32, &[u64], usize, End); 5] = [
+        (1, &clear, 1, End::Spent),
+        (2, &clear, 21, End::Clear),
+        (2, &held, 4, End::Held),
+        (2, &again, 5, End::Spent),
+        (2, &gone, 21, End::Gone),
     ];
     for (left, answers, taken, end) in rows {
         let mut pass = pass_for(Some(TABLE), PassMode::Sweep { own: 25, left })?;
         let start = [256, PENDING, BLOCK[0], BLOCK[1], BLOCK[2]];
-        assert!(rt; fed(&mut pass, &start) == 5, "the start of {end}");
-        assert!(rt; pass.block() == None, "the drop of {end}");
-        assert!(rt; fed(&mut pass, answers) == taken, "{end} {left}");
+        assert!(rt; fed(&mut pass, &start) == 5, "the start of {end:?}");
+        assert!(rt; pass.block() == None, "the drop of {end:?}");
+        assert!(rt; fed(&mut pass, answers) == taken, "{end:?} {left}");
         let passed = pass.passed().ok_or("no end")?;
         let named = match passed.end {
-            PassEnd::Held(_) => "held",
-            PassEnd::Clear => "clear",
-            PassEnd::Gone => "gone",
-            PassEnd::Spent => "spent",
+            PassEnd::Held(_) => End::Held,
+            PassEnd::Clear => End::Clear,
+            PassEnd::Gone => End::Gone,
+            PassEnd::Spent => End::Spent,
         };
-        assert!(rt; named == end, "{end} {left}");
+        assert!(rt; named == end, "{end:?} {left}");
     }
     Ok(())
 }
