@@ -29,3 +29,5 @@ pub mod Naming
 pub mod Modest
 pub mod Unchanging
 pub mod Following
+pub mod Apart
+pub mod Readiness

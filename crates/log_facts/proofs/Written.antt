@@ -1,10 +1,8 @@
 -- A block that a client has taken and written: kept by entries of other clients; and the slot words that name it.
-use Rattle.std.specs.Prelude.{◌≡◌, ◌≢◌, ℕ, zero, suc, ◌+◌, ◌-◌, ◌^◌, ◌<◌, ◌≤◌, List, [], ◌∷◌, length, Some, refl}
+use Rattle.std.specs.Prelude.{◌≡◌, ◌≢◌, ℕ, zero, suc, ◌+◌, ◌-◌, ◌<◌, ◌≤◌, List, [], ◌∷◌, length, Some, refl}
 use Rattle.std.proofs.Common.{sym, ◌∙◌, ap, arith, get_or}
 use Rattle.std.proofs.lemmas.Bool.{cond-true, le-leb}
-use Rattle.std.proofs.lemmas.Nat.{div_below}
 use Rattle.slot_word.specs.declared.slots.Mark.{Mark}
-use Rattle.slot_word.specs.Slots.{IsSlot, slot_word}
 use Rattle.kv_block.specs.Packing.{Pair, IsPair, packed, unpacked}
 use Rattle.kv_block.proofs.Packed.{packed_least, packed_most, unpacked-packed}
 use Rattle.node_words.specs.declared.geometry.Geometry.{Geometry}
@@ -13,7 +11,7 @@ use Rattle.node_words.proofs.Sizes.{first_free_low}
 use Rattle.verb_log.specs.declared.entry.Entry.{Entry}
 use Rattle.verb_log.specs.Decoded.{Body, Full, content}
 use Rattle.verb_log.specs.Tables.{Past, word_at, words_at, pair_at}
-use Rattle.race_laws.specs.Setting.{Setting, hash, print_of}
+use Rattle.race_laws.specs.Setting.{Setting, print_of}
 use Rattle.race_laws.specs.Legal.{Legal}
 use Rattle.race_laws.proofs.Regions.{base_low}
 use Rattle.race_laws.proofs.Touch.{taken_by_someone}
@@ -21,6 +19,7 @@ use Rattle.race_laws.proofs.SoundStep.{sound}
 use Rattle.log_facts.specs.Mine.{Block}
 use Rattle.log_facts.proofs.Mine.{mine_others, mine_word}
 use Rattle.log_facts.proofs.Taking.{mine_within}
+use Rattle.log_facts.specs.Since.{Since, same, more}
 use Rattle.log_facts.specs.SlotWords.{marked}
 use Rattle.log_facts.proofs.Marks.{Fields, content_marked}
 
@@ -50,6 +49,10 @@ block_others s c at ws q e l o b = record {
   mine = mine_others s q e l c at (length ws) o b.mine;
   written = words_same s.geometry q (e ∷ q) at (length ws) (λ x h k. mine_word s q e l c at (length ws) x o b.mine h k) ∙ b.written;
 }
+
+pub block_since : (s : Setting) (c at : ℕ) (ws : List ℕ) {p q : Past} → Since c p q → Legal s q → Block s c at ws p → Block s c at ws q
+block_since s c at ws same l b = b
+block_since s c at ws (more {q = q} e bf o) l b = block_others s c at ws q e l o (block_since s c at ws bf l.0 b)
 
 -- what the slot words of a written block say
 module _ (s : Setting) (c at : ℕ) (pair : Pair) (ip : IsPair pair) (q : Past) (l : Legal s q) (b : Block s c at (packed pair.key pair.value) q) where

@@ -8,3 +8,4 @@ pub mod Reached
 pub mod SlotWords
 pub mod Passings
 pub mod Entries
+pub mod Ready

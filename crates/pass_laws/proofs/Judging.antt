@@ -21,7 +21,7 @@ use Rattle.race_laws.specs.Standing.{IsTable, place_in, Word, IsIn}
 use Rattle.race_laws.specs.Chains.{IsCandidate, Holder, live}
 use Rattle.race_laws.specs.Looks.{Searched, InOrder, Answers, IsMiss, Passing}
 use Rattle.race_laws.specs.Rows.{IsPlace}
-use Rattle.race_laws.specs.Legal.{SlotRow, Row, Meets, Legal}
+use Rattle.race_laws.specs.Legal.{Meets, Legal}
 use Rattle.race_laws.proofs.Positions.{legal_before}
 use Rattle.race_laws.proofs.SoundStep.{sound}
 use Rattle.race_laws.proofs.Covers.{table_before}

@@ -12,7 +12,7 @@ use Rattle.log_facts.specs.Beside.{Firm, other, mild, uses_lock}
 use Rattle.log_facts.proofs.Silent.{Kept, zero_silent}
 use Rattle.pass_text.specs.declared.job.PassMode.{PassMode}
 use Rattle.pass_text.specs.declared.job.PassMode.TheVariants.{Look, Sweep, Walk}
-use Rattle.pass_laws.specs.SafeIn.{SafeBy, Calmly, SafeIn}
+use Rattle.pass_laws.specs.SafeIn.{Calmly, SafeIn}
 use Rattle.pass_laws.specs.Drops.{Drops}
 use Rattle.pass_laws.proofs.Rules.{Holds, by_kept}
 

@@ -33,8 +33,6 @@ use Rattle.pass_text.specs.declared.job.PassMode.TheVariants.{Look, Sweep, Walk}
 use Rattle.pass_text.specs.declared.passed.Passed.{Passed}
 use Rattle.pass_text.specs.Words.{address_of, head_in, directory_word}
 use Rattle.pass_text.specs.Pass.{opened_at, on_header, at_table, pass}
-use Rattle.verb_log.specs.Changes.{changes_by}
-use Rattle.log_facts.specs.Beside.{mild, uses_lock}
 use Rattle.pass_laws.specs.SafeIn.{SafeBy, Calmly, SafeIn}
 use Rattle.pass_laws.specs.Drops.{Drops}
 use Rattle.pass_laws.specs.HasPassed as told

@@ -11,8 +11,8 @@ use Rattle.node_words.specs.Roles.{SlotWord}
 use Rattle.verb_log.specs.declared.entry.Entry.{Entry}
 use Rattle.verb_log.specs.Decoded.{Body, Full, content, SplittingAt, header}
 use Rattle.verb_log.specs.Tables.{Past, Before, here, later, word_at, pair_at, role}
-use Rattle.race_laws.specs.Setting.{Setting, hash, places}
-use Rattle.race_laws.specs.Standing.{IsTable, header_in, birth_in, child_in, place_in, depth, IsGone, Exits, Word, IsIn}
+use Rattle.race_laws.specs.Setting.{Setting, hash}
+use Rattle.race_laws.specs.Standing.{IsTable, header_in, birth_in, child_in, place_in, depth, IsGone, Exits, Word}
 use Rattle.race_laws.specs.Chains.{IsCandidate, goes_on, Holder, live, copied}
 use Rattle.race_laws.specs.Splits.{WasClear}
 use Rattle.race_laws.specs.Rows.{IsPlace, IsFresh, CopyRow}

@@ -1,7 +1,6 @@
 -- In a legal log at most one row of the table of kinds fits an entry.
 use Rattle.std.specs.Prelude.{◌≡◌, Bool, true, false, refl}
 use Rattle.std.proofs.Common.{sym, ◌∙◌, ap}
-use Rattle.node_words.specs.Roles.{HeapWord}
 use Rattle.verb_log.specs.declared.entry.Entry.{Entry}
 use Rattle.verb_log.specs.declared.kind.Kind.{Kind}
 use Rattle.verb_log.specs.Tables.{Past, role, is_taken, is_published}

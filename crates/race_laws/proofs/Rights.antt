@@ -1,24 +1,22 @@
--- Locks: a table whose lock is 0 is quiet, and what the holder of a lock reads, others leave. No law of the index rests on
--- this file; the swaps that are never lost do.
-use Rattle.std.specs.Prelude.{◌≡◌, ◌≢◌, ℕ, ◌+◌, ◌*◌, ◌<◌, ◌≤◌, [], ◌∷◌, refl}
+-- Locks: a table whose lock is 0 is quiet. No law of the index rests on this file; the swaps that are never lost do, with what
+-- others leave of a table whose lock a client has.
+use Rattle.std.specs.Prelude.{◌≡◌, ℕ, ◌+◌, ◌*◌, ◌<◌, ◌≤◌, [], ◌∷◌, refl}
 use Rattle.std.proofs.Common.{sym, ◌∙◌, ap, subst, arith, ⊎_elim}
-use Rattle.slot_word.specs.declared.slots.Mark.TheVariants.{Copied, Moved}
 use Rattle.slot_word.specs.declared.births.Birth.{Birth}
-use Rattle.node_words.specs.Addresses.{header_at, lock_at, slot_at, bucket_header_at}
+use Rattle.node_words.specs.Addresses.{header_at, lock_at, bucket_header_at}
 use Rattle.verb_log.specs.declared.entry.Entry.{Entry}
-use Rattle.verb_log.specs.Decoded.{Body, Empty, Full, content, Header, PlainAt, SplittingAt, FillingAt, header}
+use Rattle.verb_log.specs.Decoded.{Header, PlainAt, header}
 use Rattle.verb_log.specs.Tables.{Past, word_at}
 use Rattle.race_laws.specs.Setting.{Setting}
-use Rattle.race_laws.specs.Standing.{IsTable, header_in, birth_in, lock_in, child_in, bucket_in, place_in, depth, IsFilling, IsPlain}
+use Rattle.race_laws.specs.Standing.{IsTable, header_in, birth_in, lock_in, child_in, bucket_in, depth, IsFilling, IsPlain}
 use Rattle.race_laws.specs.Chains.{OnChain}
 use Rattle.race_laws.specs.Splits.{IsQuiet}
-use Rattle.race_laws.specs.Rows.{IsPlace}
 use Rattle.race_laws.specs.Legal.{Legal}
-use Rattle.race_laws.proofs.Step.{SlotStep, place, drop, commit, replace, remove, copy, uncopy, flip, settle, clear, HeaderStep, open_it, finish, ripen, BucketStep, begin, close, ripen_bucket, LockStep, lock, unlock}
+use Rattle.race_laws.proofs.Step.{HeaderStep, open_it, finish, ripen, BucketStep, begin, close, ripen_bucket, LockStep, lock, unlock}
 use Rattle.race_laws.proofs.Touch.{word_put}
 use Rattle.race_laws.proofs.Sound.{Sound}
 use Rattle.race_laws.proofs.SoundStep.{sound}
-use Rattle.race_laws.proofs.Frames.{birth_kept, header_cases, bucket_cases, lock_cases, child_cases, slot_cases, child_stays}
+use Rattle.race_laws.proofs.Frames.{birth_kept, header_cases, bucket_cases, lock_cases, child_cases, child_stays}
 use Rattle.race_laws.proofs.Finality.{filling_on, header_next}
 use Rattle.race_laws.proofs.Splits.{Splits, Linked, new_table, new_word}
 use Rattle.race_laws.proofs.Opening.{splits, opening_quiet}
@@ -132,87 +130,3 @@ unlocked_quiet s (e ∷ q) l t h z = ⊎_elim
     (λ y. unlocked_now s q e l t x y.1 y.2 z) (lock_cases s q e l.1 (sound s q l.0) t x))
     (λ x. let y = ap (lock_in s.geometry (e ∷ q)) x.0 ∙ new_locked s q e l x.1 in absurd (omega arith))
     (new_table s q e l.0 l.1 t h)
-
--- what the client that has a lock reads, the entries of others leave
-module _ (s : Setting) (q : Past) (e : Entry) (l : Legal s (e ∷ q)) (c : ℕ) (other : e.client ≢ c) where
-  not_mine : {w : ℕ} → w ≡ c + 1 → w ≡ e.client + 1 → ⊥
-  not_mine x y = other (omega arith)
-
-  -- the lock itself, so that an Unlock is never lost
-  pub keeps_lock : (t : ℕ) → IsTable s.geometry q t → lock_in s.geometry q t ≡ c + 1 → lock_in s.geometry (e ∷ q) t ≡ c + 1
-  keeps_lock t h k = ⊎_elim (λ (x : lock_in s.geometry (e ∷ q) t ≡ lock_in s.geometry q t). x ∙ k) (λ x. absurd (by x.1 x.2)) (lock_cases s q e l.1 (sound s q l.0) t h)
-    where
-      by : lock_at t ≡ e.at → LockStep s q e t → ⊥
-      by a (lock o n) = let z = ap (word_at s.geometry q) a in omega arith
-      by a (unlock o n r) = let z = ap (word_at s.geometry q) a in not_mine k (z ∙ o)
-
-  -- each child word, so that a Link is never lost
-  pub keeps_child : (t i : ℕ) → IsTable s.geometry q t → i < 16 → lock_in s.geometry q t ≡ c + 1 → child_in s.geometry (e ∷ q) t i ≡ child_in s.geometry q t i
-  keeps_child t i h k x = ⊎_elim (λ (y : child_in s.geometry (e ∷ q) t i ≡ child_in s.geometry q t i). y) (λ y. absurd (not_mine x y.4.locked)) (child_cases s q e l.1 (sound s q l.0) t h i k)
-
-  -- the header of a splitting table, so that a Finish is never lost
-  pub keeps_splitting : (t d : ℕ) → IsTable s.geometry q t → lock_in s.geometry q t ≡ c + 1 → header_in s.geometry q t ≡ SplittingAt d → header_in s.geometry (e ∷ q) t ≡ SplittingAt d
-  keeps_splitting t d h k w = ⊎_elim (λ (x : header_in s.geometry (e ∷ q) t ≡ header_in s.geometry q t). x ∙ w) (λ x. absurd (by x.1 x.2)) (header_cases s q e l.1 (sound s q l.0) t h)
-    where
-      by : header_at t ≡ e.at → HeaderStep s q e t → ⊥
-      by a (open_it f o n r) = let z = ap (λ v. header (word_at s.geometry q v)) a in cc
-      by a (finish f o n r) = not_mine k r.locked
-      by a (ripen f o n r) = let z = ap (λ v. header (word_at s.geometry q v)) a in cc
-
-  -- a splitting bucket header, so that a Close is never lost
-  pub keeps_splitting_bucket : (t m d : ℕ) → IsTable s.geometry q t → m < 2 * s.geometry.groups → lock_in s.geometry q t ≡ c + 1 → bucket_in s.geometry q t m ≡ SplittingAt d → bucket_in s.geometry (e ∷ q) t m ≡ SplittingAt d
-  keeps_splitting_bucket t m d h low k w = ⊎_elim (λ (x : bucket_in s.geometry (e ∷ q) t m ≡ bucket_in s.geometry q t m). x ∙ w) (λ x. absurd (by x.1 x.2)) (bucket_cases s q e l.1 (sound s q l.0) t h m low)
-    where
-      by : bucket_header_at t m ≡ e.at → BucketStep s q e t → ⊥
-      by a (begin f o n r) = let z = ap (λ v. header (word_at s.geometry q v)) a in cc
-      by a (close f o n r) = not_mine k r.locked
-      by a (ripen_bucket f o n r) = let z = ap (λ v. header (word_at s.geometry q v)) a in cc
-
-  -- the headers of a filling table, so that a Ripen is never lost
-  pub keeps_filling : (t d : ℕ) → IsTable s.geometry q t → lock_in s.geometry q t ≡ c + 1 → header_in s.geometry q t ≡ FillingAt d → header_in s.geometry (e ∷ q) t ≡ FillingAt d
-  keeps_filling t d h k w = ⊎_elim (λ (x : header_in s.geometry (e ∷ q) t ≡ header_in s.geometry q t). x ∙ w) (λ x. absurd (by x.1 x.2)) (header_cases s q e l.1 (sound s q l.0) t h)
-    where
-      by : header_at t ≡ e.at → HeaderStep s q e t → ⊥
-      by a (open_it f o n r) = let z = ap (λ v. header (word_at s.geometry q v)) a in cc
-      by a (finish f o n r) = let z = ap (λ v. header (word_at s.geometry q v)) a in cc
-      by a (ripen f o n r) = not_mine k r.ripens.locked
-
-  pub keeps_filling_bucket : (t m d : ℕ) → IsTable s.geometry q t → m < 2 * s.geometry.groups → lock_in s.geometry q t ≡ c + 1 → bucket_in s.geometry q t m ≡ FillingAt d → bucket_in s.geometry (e ∷ q) t m ≡ FillingAt d
-  keeps_filling_bucket t m d h low k w = ⊎_elim (λ (x : bucket_in s.geometry (e ∷ q) t m ≡ bucket_in s.geometry q t m). x ∙ w) (λ x. absurd (by x.1 x.2)) (bucket_cases s q e l.1 (sound s q l.0) t h m low)
-    where
-      by : bucket_header_at t m ≡ e.at → BucketStep s q e t → ⊥
-      by a (begin f o n r) = let z = ap (λ v. header (word_at s.geometry q v)) a in cc
-      by a (close f o n r) = let z = ap (λ v. header (word_at s.geometry q v)) a in cc
-      by a (ripen_bucket f o n r) = not_mine k r.locked
-
-  -- a moved word, so that a Clear is never lost
-  pub keeps_moved : (t p : ℕ) (b : Body) → IsTable s.geometry q t → IsPlace s.geometry p → lock_in s.geometry q t ≡ c + 1 → place_in s.geometry q t p ≡ Full Moved b → place_in s.geometry (e ∷ q) t p ≡ Full Moved b
-  keeps_moved t p b h k x w = ⊎_elim (λ (y : place_in s.geometry (e ∷ q) t p ≡ place_in s.geometry q t p). y ∙ w) (λ y. absurd (by y.1 y.2)) (slot_cases s q e l.1 (sound s q l.0) t h p k)
-    where
-      by : slot_at t p ≡ e.at → SlotStep s q e t p → ⊥
-      by a (place d i o n row) = let z = ap (λ v. content (word_at s.geometry q v)) a in cc
-      by a (drop d i o n) = let z = ap (λ v. content (word_at s.geometry q v)) a in cc
-      by a (commit d i o n row) = let z = ap (λ v. content (word_at s.geometry q v)) a in cc
-      by a (replace d f i o n y row) = let z = ap (λ v. content (word_at s.geometry q v)) a in cc
-      by a (remove d i o n row) = let z = ap (λ v. content (word_at s.geometry q v)) a in cc
-      by a (copy d i o n row) = ⊎_elim (λ (v : content (word_at s.geometry q e.at) ≡ Empty). let z = ap (λ v. content (word_at s.geometry q v)) a in cc) (λ v. let z = ap (λ v. content (word_at s.geometry q v)) a in let u = v.1 in cc) o
-      by a (uncopy d i o n row) = let z = ap (λ v. content (word_at s.geometry q v)) a in cc
-      by a (flip d i o n row) = let z = ap (λ v. content (word_at s.geometry q v)) a in cc
-      by a (settle d i o n row) = let z = ap (λ v. content (word_at s.geometry q v)) a in cc
-      by a (clear d i o n row) = not_mine x row.locked
-
-  -- a copy whose place of the parent is not moved, so that an Uncopy and a Copy over it are never lost
-  pub keeps_copy : (t p : ℕ) (b : Body) → IsTable s.geometry q t → IsPlace s.geometry p → lock_in s.geometry q (birth_in s.geometry q t).parent ≡ c + 1 → ((d : Body) → place_in s.geometry q (birth_in s.geometry q t).parent p ≢ Full Moved d) → place_in s.geometry q t p ≡ Full Copied b → place_in s.geometry (e ∷ q) t p ≡ Full Copied b
-  keeps_copy t p b h k x still w = ⊎_elim (λ (y : place_in s.geometry (e ∷ q) t p ≡ place_in s.geometry q t p). y ∙ w) (λ y. absurd (by y.1 y.2)) (slot_cases s q e l.1 (sound s q l.0) t h p k)
-    where
-      by : slot_at t p ≡ e.at → SlotStep s q e t p → ⊥
-      by a (place d i o n row) = let z = ap (λ v. content (word_at s.geometry q v)) a in cc
-      by a (drop d i o n) = let z = ap (λ v. content (word_at s.geometry q v)) a in cc
-      by a (commit d i o n row) = let z = ap (λ v. content (word_at s.geometry q v)) a in cc
-      by a (replace d f i o n y row) = let z = ap (λ v. content (word_at s.geometry q v)) a in cc
-      by a (remove d i o n row) = let z = ap (λ v. content (word_at s.geometry q v)) a in cc
-      by a (copy d i o n row) = not_mine x row.locked
-      by a (uncopy d i o n row) = not_mine x row.locked
-      by a (flip d i o n row) = let z = ap (λ v. content (word_at s.geometry q v)) a in cc
-      by a (settle d i o n row) = still row.body row.moved
-      by a (clear d i o n row) = let z = ap (λ v. content (word_at s.geometry q v)) a in cc

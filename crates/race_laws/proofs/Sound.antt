@@ -11,7 +11,7 @@ use Rattle.node_words.proofs.FirstTables.{IsInFirst, first_is}
 use Rattle.node_words.proofs.RoleLemmas.{next_role}
 use Rattle.node_words.proofs.OpeningWords.{next_apart}
 use Rattle.verb_log.specs.Decoded.{Body, Full, content}
-use Rattle.verb_log.specs.Tables.{Past, word_at, pair_at, table_of, role, is_taken, is_published, judged, judged_role}
+use Rattle.verb_log.specs.Tables.{Past, word_at, table_of, role, is_taken, is_published, judged, judged_role}
 use Rattle.race_laws.specs.Setting.{base}
 use Rattle.race_laws.specs.Named.{Named}
 use Rattle.race_laws.proofs.Regions.{base_from, heap_none, heap_word}
