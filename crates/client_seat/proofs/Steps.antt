@@ -1,13 +1,13 @@
 -- Each verb keeps the rule.
 use Rattle.std.specs.Prelude.{◌≡◌, ◌≢◌, ℕ, ◌<◌, ◌==◌, cond, List, [], ◌∷◌, ◌++◌, length, refl, slice_index, slice_set}
 use Rattle.std.proofs.Common.{sym, ◌∙◌, ap, subst, inl, ⊎_elim, append-nil, append_assoc}
-use Rattle.std.proofs.lemmas.Bool.{eq-eqb, ne_eqb}
+use Rattle.std.proofs.lemmas.Bool.{cases_eq, eq-eqb, ne_eqb}
 use Rattle.std.proofs.lemmas.List.{set-get_or}
-use mathlib.Core.Option.{Option, some, none}
+use mathlib.Core.Option.{Option, some, none, some-injective}
 use lib.ListN.{get_elem?}
 use prog.Atomic.{either}
 use Rattle.atomic_table.specs.Table.{State, Me, Act, keeps, Valid, stepped, carried_after, step, Allows}
-use Rattle.atomic_table.proofs.Lists.{at_set, exchanged}
+use Rattle.atomic_table.proofs.Lists.{at_set, set_else, exchanged}
 use Rattle.verb_log.specs.declared.entry.Verb.{Verb}
 use Rattle.verb_log.specs.declared.entry.Verb.TheVariants.{Read, Write, Swap}
 use Rattle.verb_log.specs.Replay.{replay}
@@ -73,6 +73,18 @@ module _ (s : Setting) (n : ℕ) (st : State ℕ View) (h : Kept s n st) (id : �
         (λ x. ⊎_elim (λ same. ap h.owner (sym same) ∙ place ∙ sym x.0) (λ none. absurd none) (subst (λ (w : View). HasNumber w.own d) (sym x.1) has.number))
         (λ x. h.owned i v d x.1 has)
         (at_set st.views id i (seat_view s n (h.log ++ mine) c new) v e);
+    held = λ d low.
+        let x = h.held d low in
+        ⊎_elim
+        (λ same.
+        let is : acting s n front (own_as c deeds ∷ []) met ≡ x.view = some-injective _ _ (sym there ∙ subst (λ i. get_elem? st.views i ≡ some x.view) same x.there) in
+        record {
+          view = seat_view s n (h.log ++ mine) c new;
+          there = subst (λ i. get_elem? (slice_set st.views id (seat_view s n (h.log ++ mine) c new)) i ≡ some (seat_view s n (h.log ++ mine) c new)) (sym same) (set_there st.views id _ _ there);
+          has = record { live = refl; acts = refl; number = subst (λ (w : View). HasNumber w.own d) (sym is) x.has.number };
+        })
+        (λ differs. record { view = x.view; there = set_else st.views id (h.owner d) (seat_view s n (h.log ++ mine) c new) differs ∙ x.there; has = x.has })
+        (cases_eq (h.owner d) id);
     top = record { place = id; view = seat_view s n (h.log ++ mine) c new; there = set_there st.views id _ _ there; number = c; has = record { live = refl; acts = refl; number = inl refl }; whole = refl };
   }
 
