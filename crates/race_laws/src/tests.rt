@@ -453,7 +453,7 @@ fn an_update_below_a_moved_place(rt: HostRuntime) -> Result<(), Fail> {
     let held = slot_in(&before, child, place).ok_or("no slot")?;
     assert!(rt; above.mark == Mark::Moved && held.mark == Mark::Live && held.at == above.at);
     let candidates = places(&geometry, HASH);
-    assert!(rt; candidates.get(0) == place);
+    assert!(rt; candidates.len() > 0 && candidates.get(0) == place);
     assert!(rt; is_gone(HASH, &before, table, header_at(table)) == Some(true));
     let words = words_of(rt.alloc(), &geometry, &log)?;
     let slot = slot_in(&words, child, place).ok_or("no slot")?;
