@@ -17,7 +17,7 @@ indices_fit e g x le low =
     let a = one_shl e 64 (omega arith) in
     let b = one_shl (g - e) 64 (omega arith) in
     let m = mod_below x (2 ^ e) (pow_pos e) in
-    let p : 2 ^ e ≤ 2 ^ 16 = pow-le-pow_right (omega arith) (omega arith) in
-    let q : 2 ^ g ≤ 2 ^ 16 = pow-le-pow_right (omega arith) low in
+    let p : 2 ^ e ≤ 2 ^ 16 = pow-le-pow_right (omega arith) {i = e} {j = 16} (omega arith) in
+    let q : 2 ^ g ≤ 2 ^ 16 = pow-le-pow_right (omega arith) {i = g} {j = 16} low in
     let s = all_steps e g le in
     rw a (rw b (omega arith))

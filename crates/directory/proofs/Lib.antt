@@ -1,2 +1,5 @@
 mod Bounds
 mod Indices
+mod Child
+mod Looking
+mod Each
