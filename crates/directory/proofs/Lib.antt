@@ -3,3 +3,5 @@ mod Indices
 mod Child
 mod Looking
 mod Each
+mod Doubling
+mod Whole

@@ -27,6 +27,7 @@ impl NameOp {
     ghost use Rattle.verbs.specs.Programs.{next_act, Within};
     ghost use Rattle.directory.specs.Text.{naming};
     ghost use Rattle.directory.specs.Bound.{naming_verbs};
+    ghost use Rattle.directory.specs.Law.{IsSafeNaming};
     ghost use Rattle.directory.specs.Rest.{name_rest};
 
     /// Names the child with this birth in the directory, which is doubled where it is as deep as the child's parent was. It
@@ -40,6 +41,7 @@ impl NameOp {
         ensures naming { result.naming ≡ record { geometry = geometry; child = child; birth = birth } }
         ensures within { Within (naming_verbs geometry.max_depth) (name_rest result) }
         ensures waits { IsSome (next_act (name_rest result)) }
+        ensures safe { IsSafeNaming (record { geometry = geometry; child = child; birth = birth }) (name_rest result) }
     {
         NameOp {
             naming: Naming {
