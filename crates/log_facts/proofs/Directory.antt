@@ -68,7 +68,8 @@ first_birth_is s q l t f =
     let tb : IsTable s.geometry [] t = subst (IsTable s.geometry []) (sym f.is) (first_is_table s.geometry [] f.index f.below) in
     birth_before s (before_opening q) l t tb ∙ ap (birth_in s.geometry []) f.is ∙ ap birth (opening_birth s.geometry f.index f.below) ∙ birth_word_is s.geometry.first_depth f.index (few_first s.geometry) f.below
 
-first_chain : (s : Setting) (q : Past) → Legal s q → (h t : ℕ) → IsInFirst s.geometry t t → (birth_in s.geometry q t).suffix ≡ h % 2 ^ born_at s.geometry q t → OnChain s.geometry q h t
+-- a first table is on the chain of each hash with its suffix
+pub first_chain : (s : Setting) (q : Past) → Legal s q → (h t : ℕ) → IsInFirst s.geometry t t → (birth_in s.geometry q t).suffix ≡ h % 2 ^ born_at s.geometry q t → OnChain s.geometry q h t
 first_chain s q l h t f e =
     let b = first_birth_is s q l t f in
     let suffix : f.index ≡ h % 2 ^ s.geometry.first_depth = sym (ap (λ (v : Birth). v.suffix) b) ∙ e ∙ ap (λ (v : Birth). h % 2 ^ v.depth) b in

@@ -1,0 +1,5 @@
+pub mod Text
+pub mod Bound
+pub mod Law
+pub mod Rest
+pub mod AtFits
