@@ -104,11 +104,11 @@ module _ (s : Setting) (c : ℕ) (t : Naming) (same : t.geometry ≡ s.geometry)
               let hz = child_since s t from sz lz h in
               let bz = Before-trans b (since_before sz) in
               look_safe s c t from (λ z m. HasNamed s t from z m) (first_index t + k * step t) (name_each t depth n (first_index t + k * step t + step t)) z
-                  (λ y ly hy by w. subst (λ v. SafeBy Names s c y (name_each t depth n v) (λ z m. HasNamed s t from z m)) (onward (first_index t) k (step t))
-                  (each_safe n (suc k) (omega arith) y ly hy (Before-trans bz by)
-                  (λ x i. named (Before-trans (since_before sz) by) w x i)))
-                  (suc t.birth.depth) (word_at s.geometry z (directory_at (first_index t + k * step t))) z z here lz hz here
-                  (record { child = hz; mine = mine z lz bz hz k low; is = refl }) (omega arith),
+              (λ y ly hy by w. subst (λ v. SafeBy Names s c y (name_each t depth n v) (λ z m. HasNamed s t from z m)) (onward (first_index t) k (step t))
+              (each_safe n (suc k) (omega arith) y ly hy (Before-trans bz by)
+              (λ x i. named (Before-trans (since_before sz) by) w x i)))
+              (suc t.birth.depth) (word_at s.geometry z (directory_at (first_index t + k * step t))) z z here lz hz here
+              (record { child = hz; mine = mine z lz bz hz k low; is = refl }) (omega arith),
         )
       where
         onward : (a k m : ℕ) → a + suc k * m ≡ a + k * m + m

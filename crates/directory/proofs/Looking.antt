@@ -71,8 +71,8 @@ module _ (s : Setting) (c : ℕ) (t : Naming) (from : Past) (End : Past → Name
         let depth_is : (birth (word_at s.geometry z (address_of w))).depth ≡ born_at s.geometry z w = ap (λ v. (birth (word_at s.geometry z v)).depth) (address z bz lz) in
         let old = born_same z bz lz in
         by_cond Names s c End z (nat_lt (birth (word_at s.geometry z (address_of w))).depth t.birth.depth) _ next
-            (λ v. swap_safe (λ y r2 w2 b2 ly hy sty m2 k2. look_safe n w2 r2 y b2 ly hy sty m2 k2) z lz hz bz stz (let x = less (birth (word_at s.geometry z (address_of w))).depth t.birth.depth v in omega arith))
-            (λ v. deep_enough w r z bz lz hz stz m (let x = not_less (birth (word_at s.geometry z (address_of w))).depth t.birth.depth v in omega arith)),
+        (λ v. swap_safe (λ y r2 w2 b2 ly hy sty m2 k2. look_safe n w2 r2 y b2 ly hy sty m2 k2) z lz hz bz stz (let x = less (birth (word_at s.geometry z (address_of w))).depth t.birth.depth v in omega arith))
+        (λ v. deep_enough w r z bz lz hz stz m (let x = not_less (birth (word_at s.geometry z (address_of w))).depth t.birth.depth v in omega arith)),
   )
     where
       pointed : (z : Past) → Before r z → Legal s z → Pointed s.geometry z j w
