@@ -52,10 +52,10 @@ pub trait Call {
     fn asks(&self) -> Option<Key>
         ensures { result ≡ asked (rest self.now) };
 
-    /// Takes the hash of the key that `asks` names.
+    /// Takes the hash of the key that `asks` names. It may be called at any time, so that a call that never asks meets it, and
+    /// says what is left where a hash was wanted.
     fn told(&mut self, hash: u64)
-        requires { IsSome (asked (rest self.old)) }
-        ensures rest { rest self.new ≡ goes_on part (after (rest self.old) hash) }
+        ensures rest { IsSome (asked (rest self.old)) → rest self.new ≡ goes_on part (after (rest self.old) hash) }
         ensures kept { kept self.new ≡ kept self.old };
 
     /// What the call answers. None exactly until it has answered.
