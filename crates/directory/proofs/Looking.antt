@@ -1,24 +1,23 @@
 -- Looking at a directory word is safe, and then the word has named the child or a table below it.
-use Rattle.std.specs.Prelude.{◌≡◌, ◌≢◌, ℕ, zero, suc, ◌+◌, ◌%◌, ◌^◌, ◌<◌, ◌≤◌, Bool, true, false, cond, ◌==◌, nat_lt, ◌∷◌, ◌⊎◌, None, Some, refl}
+use Rattle.std.specs.Prelude.{◌≡◌, ℕ, zero, suc, ◌+◌, ◌<◌, ◌≤◌, true, false, cond, ◌==◌, nat_lt, ◌∷◌, None, refl}
 use Rattle.std.proofs.Common.{sym, ◌∙◌, ap, subst, inl, inr, arith, ⊎_elim}
 use Rattle.std.proofs.lemmas.Bool.Decides.{nat_tests}
 use Rattle.slot_word.specs.declared.births.Birth.{Birth}
-use Rattle.node_words.specs.Addresses.{directory_at, birth_at}
-use Rattle.verb_log.specs.declared.entry.Entry.{Entry}
-use Rattle.verb_log.specs.declared.entry.Verb.TheVariants.{Read, Swap}
+use Rattle.node_words.specs.Addresses.{directory_at}
+use Rattle.verb_log.specs.declared.entry.Verb.TheVariants.{Swap}
 use Rattle.verb_log.specs.Decoded.{birth}
 use Rattle.verb_log.specs.Tables.{Past, Before, here, later, word_at}
 use Rattle.verb_log.proofs.Positions.{Before-trans}
 use Rattle.verbs.specs.Programs.{Prog, ask, do_verb}
 use Rattle.race_laws.specs.Setting.{Setting}
-use Rattle.race_laws.specs.Standing.{IsTable, birth_in}
-use Rattle.race_laws.specs.Legal.{Legal, Meets}
+use Rattle.race_laws.specs.Standing.{IsTable}
+use Rattle.race_laws.specs.Legal.{Legal}
 use Rattle.race_laws.proofs.Positions.{legal_before}
 use Rattle.race_laws.proofs.Touch.{word_put}
 use Rattle.race_laws.proofs.SoundStep.{sound}
 use Rattle.race_laws.proofs.Frames.{birth_before}
 use Rattle.race_laws.proofs.Chain.{born_at}
-use Rattle.log_facts.specs.Since.{change_in, Since}
+use Rattle.log_facts.specs.Since.{change_in}
 use Rattle.log_facts.proofs.Growing.{since_before}
 use Rattle.log_facts.proofs.Within.{birth_low}
 use Rattle.log_facts.proofs.Following.{name_meets, directory_low}
@@ -71,8 +70,8 @@ module _ (s : Setting) (c : ℕ) (t : Naming) (from : Past) (End : Past → Name
         let depth_is : (birth (word_at s.geometry z (address_of w))).depth ≡ born_at s.geometry z w = ap (λ v. (birth (word_at s.geometry z v)).depth) (address z bz lz) in
         let old = born_same z bz lz in
         by_cond Names s c End z (nat_lt (birth (word_at s.geometry z (address_of w))).depth t.birth.depth) _ next
-            (λ v. swap_safe (λ y r2 w2 b2 ly hy sty m2 k2. look_safe n w2 r2 y b2 ly hy sty m2 k2) z lz hz bz stz (let x = less (birth (word_at s.geometry z (address_of w))).depth t.birth.depth v in omega arith))
-            (λ v. deep_enough w r z bz lz hz stz m (let x = not_less (birth (word_at s.geometry z (address_of w))).depth t.birth.depth v in omega arith)),
+        (λ v. swap_safe (λ y r2 w2 b2 ly hy sty m2 k2. look_safe n w2 r2 y b2 ly hy sty m2 k2) z lz hz bz stz (let x = less (birth (word_at s.geometry z (address_of w))).depth t.birth.depth v in omega arith))
+        (λ v. deep_enough w r z bz lz hz stz m (let x = not_less (birth (word_at s.geometry z (address_of w))).depth t.birth.depth v in omega arith)),
   )
     where
       pointed : (z : Past) → Before r z → Legal s z → Pointed s.geometry z j w

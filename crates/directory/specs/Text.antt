@@ -3,7 +3,6 @@ use Rattle.std.specs.Prelude.{ℕ, zero, suc, ◌+◌, ◌-◌, ◌%◌, ◌^◌
 use Rattle.verb_log.specs.declared.entry.Verb.TheVariants.{Read, Swap}
 use Rattle.verb_log.specs.Decoded.{birth}
 use Rattle.verbs.specs.Programs.{Prog, ret, ask, do_verb}
-
 use Rattle.node_words.specs.Addresses.{directory_at, birth_at}
 use Rattle.pass_text.specs.Words.{address_of}
 use Rattle.directory.specs.declared.naming.Naming.{Naming}

@@ -1,16 +1,14 @@
 -- What is known of a block that a look found held: kept by every legal entry.
-use Rattle.std.specs.Prelude.{◌≡◌, ℕ, ◌^◌, ◌<◌, true, List, ◌∷◌, Some, refl}
-use Rattle.std.proofs.Common.{sym, ◌∙◌, ap, subst, arith}
-use Rattle.std.proofs.lemmas.Nat.{div_below}
+use Rattle.std.specs.Prelude.{◌≡◌, ℕ, true, List, ◌∷◌, Some, refl}
+use Rattle.std.proofs.Common.{◌∙◌, subst}
 use Rattle.slot_word.specs.declared.slots.Mark.{Mark}
 use Rattle.slot_word.specs.declared.slots.Mark.TheVariants.{Live, Copied}
-use Rattle.slot_word.specs.Slots.{slot_word}
 use Rattle.kv_block.specs.Packing.{Pair}
 use Rattle.node_words.specs.Roles.{SlotWord}
 use Rattle.verb_log.specs.declared.entry.Entry.{Entry}
 use Rattle.verb_log.specs.Decoded.{Body, Full, content}
 use Rattle.verb_log.specs.Tables.{Past, Before, here, pair_at, role, publishes}
-use Rattle.race_laws.specs.Setting.{Setting, hash, print_of}
+use Rattle.race_laws.specs.Setting.{Setting}
 use Rattle.race_laws.specs.Standing.{IsTable, place_in, Word}
 use Rattle.race_laws.specs.Chains.{Holder, live}
 use Rattle.race_laws.specs.Rows.{IsPlace}
@@ -22,7 +20,6 @@ use Rattle.race_laws.proofs.Slots.{standing_named}
 use Rattle.race_laws.proofs.Candidates.{word_candidate}
 use Rattle.race_laws.proofs.Homes.{Home, Stands, as_live, as_copy}
 use Rattle.race_laws.proofs.Presence.{holder_home}
-use Rattle.log_facts.proofs.Prints.{prints}
 use Rattle.log_facts.specs.Mine.{Mine}
 use Rattle.log_facts.proofs.Mine.{mine_own}
 

@@ -1,10 +1,8 @@
 -- A block that a client has taken and written: kept by entries of other clients; and the slot words that name it.
-use Rattle.std.specs.Prelude.{◌≡◌, ◌≢◌, ℕ, zero, suc, ◌+◌, ◌-◌, ◌^◌, ◌<◌, ◌≤◌, List, [], ◌∷◌, length, Some, refl}
+use Rattle.std.specs.Prelude.{◌≡◌, ◌≢◌, ℕ, zero, suc, ◌+◌, ◌-◌, ◌<◌, ◌≤◌, List, [], ◌∷◌, length, Some, refl}
 use Rattle.std.proofs.Common.{sym, ◌∙◌, ap, arith, get_or}
 use Rattle.std.proofs.lemmas.Bool.{cond-true, le-leb}
-use Rattle.std.proofs.lemmas.Nat.{div_below}
 use Rattle.slot_word.specs.declared.slots.Mark.{Mark}
-use Rattle.slot_word.specs.Slots.{IsSlot, slot_word}
 use Rattle.kv_block.specs.Packing.{Pair, IsPair, packed, unpacked}
 use Rattle.kv_block.proofs.Packed.{packed_least, packed_most, unpacked-packed}
 use Rattle.node_words.specs.declared.geometry.Geometry.{Geometry}
@@ -13,7 +11,7 @@ use Rattle.node_words.proofs.Sizes.{first_free_low}
 use Rattle.verb_log.specs.declared.entry.Entry.{Entry}
 use Rattle.verb_log.specs.Decoded.{Body, Full, content}
 use Rattle.verb_log.specs.Tables.{Past, word_at, words_at, pair_at}
-use Rattle.race_laws.specs.Setting.{Setting, hash, print_of}
+use Rattle.race_laws.specs.Setting.{Setting, print_of}
 use Rattle.race_laws.specs.Legal.{Legal}
 use Rattle.race_laws.proofs.Regions.{base_low}
 use Rattle.race_laws.proofs.Touch.{taken_by_someone}
