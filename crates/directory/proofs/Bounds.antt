@@ -1,15 +1,15 @@
 -- A naming ends within so many verbs, whatever is answered.
-use Rattle.std.proofs.Common.{sym, subst, ap, ◌∙◌, ◌≡◌, ℕ, zero, suc, ◌+◌, ◌-◌, ◌*◌, ◌^◌, ◌≤◌, ◌<◌, Bool, true, false, cond, refl, arith}
-use Rattle.std.specs.Prelude.{◌==◌, ◌&&◌, ◌%◌, nat_lt, min}
+use Rattle.std.proofs.Common.{subst, ap, ◌∙◌, ◌≡◌, ℕ, zero, suc, ◌+◌, ◌-◌, ◌*◌, ◌^◌, ◌≤◌, ◌<◌, Bool, true, false, cond, refl, arith}
+use Rattle.std.specs.Prelude.{◌==◌, ◌&&◌, nat_lt, min}
 use Rattle.std.proofs.lemmas.Bool.Decides.{nat_tests}
-use Rattle.std.proofs.lemmas.Nat.{pow-add, pow_pos, mul-le}
+use Rattle.std.proofs.lemmas.Nat.{pow-add, mul-le}
 use Rattle.std.proofs.Math.Nat.{pow-le-pow_right}
 use Rattle.verb_log.specs.Decoded.{birth}
 use Rattle.verbs.specs.Programs.{Prog, Within}
 use Rattle.verbs.proofs.Progs.{Within-more}
 use Rattle.directory.specs.declared.naming.Naming.{Naming}
 use Rattle.directory.specs.declared.naming.Named.{Named}
-use Rattle.directory.specs.Text.{old_depth, step, first_index, indices, look, name_each, name_below, deepen, double, after_depth, naming}
+use Rattle.directory.specs.Text.{old_depth, step, first_index, indices, look, name_each, name_below, double, after_depth, naming}
 use Rattle.directory.specs.Bound.{naming_verbs}
 
 either : (n : ℕ) (v : Bool) (p q : Prog Named) → (v ≡ true → Within n p) → (v ≡ false → Within n q) → Within n (cond v p q)

@@ -1,25 +1,24 @@
 -- What a naming knows of the child and of a directory word at each position of it.
-use Rattle.std.specs.Prelude.{◌≡◌, ◌≢◌, ℕ, ◌%◌, ◌^◌, ◌<◌, ◌≤◌, ◌∷◌, ◌⊎◌, Some}
-use Rattle.std.proofs.Common.{sym, ◌∙◌, ap, subst, inl, inr, arith, ⊎_elim}
+use Rattle.std.specs.Prelude.{◌≡◌, ◌≢◌, ℕ, ◌%◌, ◌^◌, ◌<◌, ◌≤◌, ◌∷◌, ◌⊎◌}
+use Rattle.std.proofs.Common.{sym, ◌∙◌, ap, subst, inl, inr, arith}
 use Rattle.std.proofs.Math.Nat.{mod-eq_of_lt}
 use Rattle.slot_word.specs.declared.births.Birth.{Birth}
+use Rattle.bucket_group.proofs.ExitLaws.{exit-below}
 use Rattle.node_words.specs.declared.geometry.Geometry.{Geometry}
 use Rattle.node_words.specs.Addresses.{directory_at}
 use Rattle.verb_log.specs.declared.entry.Entry.{Entry}
-use Rattle.verb_log.specs.declared.kind.Kind.{Kind}
-use Rattle.verb_log.specs.declared.kind.Kind.TheVariants.{Name, Deepen}
 use Rattle.verb_log.specs.Changes.{changes_by}
-use Rattle.verb_log.specs.Kinds.{kind}
 use Rattle.verb_log.specs.Tables.{Past, Before, here, later, word_at}
 use Rattle.verb_log.proofs.Positions.{Before-trans}
 use Rattle.race_laws.specs.Setting.{Setting}
-use Rattle.race_laws.specs.Standing.{IsTable, birth_in, header_in, depth}
+use Rattle.race_laws.specs.Standing.{birth_in, header_in, depth}
 use Rattle.race_laws.specs.Legal.{Legal}
 use Rattle.race_laws.proofs.SoundStep.{sound}
 use Rattle.race_laws.proofs.Frames.{birth_kept}
-use Rattle.race_laws.proofs.Chain.{born_at, Further, Reach, one, more, compare, reach_deeper}
+use Rattle.race_laws.proofs.Chain.{born_at, Reach, one, more, compare, reach_deeper}
 use Rattle.log_facts.specs.Since.{Since, same, more as longer}
 use Rattle.log_facts.specs.Beside.{mild, uses_lock}
+use Rattle.log_facts.specs.Entries.{Modest, uses_fresh}
 use Rattle.log_facts.proofs.Directory.{Pointed, pointed_later, directs, directory_set, birth_small}
 use Rattle.log_facts.proofs.Naming.{pointed_chain}
 use Rattle.pass_laws.specs.SafeIn.{Calmly}
@@ -30,6 +29,11 @@ use Rattle.directory.specs.Law.{Names, MayName, IsBelow, child, further, WasName
 pub names_calmly : (s : Setting) (c : ℕ) (q : Past) (e : Entry) → Names s c q e → Calmly s c q e
 names_calmly s c q e (inl k) = (ap (changes_by s.geometry q e) k, mild (ap uses_lock k))
 names_calmly s c q e (inr k) = (ap (changes_by s.geometry q e) k, mild (ap uses_lock k))
+
+-- .. nor name new blocks, link or store
+pub names_modest : (s : Setting) (c : ℕ) (q : Past) (e : Entry) → Names s c q e → Modest s q e
+names_modest s c q e (inl k) = ap uses_fresh k
+names_modest s c q e (inr k) = ap uses_fresh k
 
 -- the directory may name the child at its suffix; the naming began at the position `from`
 pub record Child (s : Setting) (t : Naming) (from q : Past) : Type 0 where
@@ -87,8 +91,8 @@ module _ (s : Setting) (t : Naming) (from : Past) where
   }
 
   below : (q : Past) (h u v : ℕ) → Reach s.geometry q h u v → IsBelow s.geometry q u v
-  below q h u v (one u2 v2 f) = child u2 f.level v2 f.child f.some
-  below q h u v (more u2 c v2 f r) = further u2 f.level c v2 f.child f.some (below q h c v2 r)
+  below q h u v (one u2 v2 f) = child u2 f.level v2 (exit-below h (born_at s.geometry q u2) f.level f.exits) f.child f.some
+  below q h u v (more u2 c v2 f r) = further u2 f.level c v2 (exit-below h (born_at s.geometry q u2) f.level f.exits) f.child f.some (below q h c v2 r)
 
   -- a word that names a table which was born no less deep than the child names the child or a table below it
   pub deep_named : (q : Past) → Legal s q → Child s t from q → (j : ℕ) → Mine j q → t.birth.depth ≤ born_at s.geometry q (word_at s.geometry q (directory_at j)) → (word_at s.geometry q (directory_at j) ≡ t.child) ⊎ IsBelow s.geometry q t.child (word_at s.geometry q (directory_at j))

@@ -1,5 +1,5 @@
 -- Doubling the directory is safe: each upper word names what the lower one names, which was born no deeper than the parent was.
-use Rattle.std.specs.Prelude.{◌≡◌, ◌≢◌, ℕ, zero, suc, ◌+◌, ◌-◌, ◌*◌, ◌%◌, ◌^◌, ◌<◌, ◌≤◌, Bool, true, false, cond, ◌==◌, ◌∷◌, ◌⊎◌, refl}
+use Rattle.std.specs.Prelude.{◌≡◌, ◌≢◌, ℕ, zero, suc, ◌+◌, ◌-◌, ◌*◌, ◌%◌, ◌^◌, ◌<◌, ◌≤◌, cond, ◌==◌, ◌∷◌, ◌⊎◌, refl}
 use Rattle.std.proofs.Common.{sym, ◌∙◌, ap, subst, inl, inr, arith, ⊎_elim}
 use Rattle.std.proofs.lemmas.Bool.Decides.{nat_tests}
 use Rattle.std.proofs.lemmas.Bool.{cases_lt}
@@ -17,7 +17,7 @@ use Rattle.race_laws.proofs.Positions.{legal_before}
 use Rattle.race_laws.proofs.Touch.{word_put}
 use Rattle.race_laws.proofs.Frames.{birth_before}
 use Rattle.race_laws.proofs.Chain.{born_at}
-use Rattle.log_facts.specs.Since.{change_in, Since}
+use Rattle.log_facts.specs.Since.{change_in}
 use Rattle.log_facts.proofs.Growing.{since_before}
 use Rattle.log_facts.proofs.Following.{name_meets, deepen_meets, directory_low}
 use Rattle.log_facts.proofs.Directory.{Pointed, directs, directory_set, pow_up}

@@ -1,6 +1,6 @@
 -- Naming the child at each index with its suffix is safe.
-use Rattle.std.specs.Prelude.{◌≡◌, ◌≢◌, ℕ, zero, suc, ◌+◌, ◌-◌, ◌*◌, ◌/◌, ◌%◌, ◌^◌, ◌<◌, ◌≤◌, Bool, true, false, cond, nat_lt, min, ◌⊎◌, refl}
-use Rattle.std.proofs.Common.{sym, ◌∙◌, ap, subst, inl, inr, arith, ⊎_elim}
+use Rattle.std.specs.Prelude.{◌≡◌, ℕ, zero, suc, ◌+◌, ◌-◌, ◌*◌, ◌/◌, ◌%◌, ◌^◌, ◌<◌, ◌≤◌, Bool, true, false, cond, nat_lt, min, ◌⊎◌, refl}
+use Rattle.std.proofs.Common.{sym, ◌∙◌, ap, subst, arith, ⊎_elim}
 use Rattle.std.proofs.lemmas.Bool.Decides.{nat_tests}
 use Rattle.std.proofs.lemmas.Nat.{pow_pos, div-add-mod', div_below, mul-le, mod-mul-add}
 use Rattle.std.proofs.Math.Nat.{mod-eq_of_lt}
@@ -9,24 +9,20 @@ use Rattle.node_words.specs.declared.geometry.Geometry.{Geometry}
 use Rattle.node_words.specs.Addresses.{directory_at}
 use Rattle.verb_log.specs.Tables.{Past, Before, here, word_at}
 use Rattle.verb_log.proofs.Positions.{Before-trans}
-use Rattle.verbs.specs.Programs.{Prog}
 use Rattle.race_laws.specs.Setting.{Setting}
 use Rattle.race_laws.specs.Legal.{Legal}
 use Rattle.race_laws.proofs.Positions.{legal_before}
-use Rattle.race_laws.proofs.Chain.{born_at}
-use Rattle.log_facts.specs.Since.{Since}
 use Rattle.log_facts.proofs.Growing.{since_before}
 use Rattle.log_facts.proofs.Following.{directory_low}
 use Rattle.log_facts.proofs.Directory.{directs, directory_set, pow_up}
 use Rattle.log_facts.proofs.Shallow.{pointed_shallow}
 use Rattle.pass_laws.specs.SafeIn.{SafeBy}
 use Rattle.directory.specs.declared.naming.Naming.{Naming}
-use Rattle.directory.specs.declared.naming.Named.{Named}
 use Rattle.directory.specs.Text.{step, first_index, indices, name_each, name_below}
 use Rattle.directory.specs.Law.{Names, WasNamed, HasNamed}
 use Rattle.directory.proofs.Indices.{all_steps}
 use Rattle.directory.proofs.Child.{Child, child_since, child_low, Mine, pointed_at, named_later}
-use Rattle.directory.proofs.Looking.{Stood, look_safe}
+use Rattle.directory.proofs.Looking.{look_safe}
 
 -- n indices are all those below 2 ^ depth with the child's suffix: from the least one on, by steps
 record Covers (t : Naming) (depth n : ℕ) : Type 0 where

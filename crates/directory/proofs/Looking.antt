@@ -1,24 +1,23 @@
 -- Looking at a directory word is safe, and then the word has named the child or a table below it.
-use Rattle.std.specs.Prelude.{◌≡◌, ◌≢◌, ℕ, zero, suc, ◌+◌, ◌%◌, ◌^◌, ◌<◌, ◌≤◌, Bool, true, false, cond, ◌==◌, nat_lt, ◌∷◌, ◌⊎◌, None, Some, refl}
+use Rattle.std.specs.Prelude.{◌≡◌, ℕ, zero, suc, ◌+◌, ◌<◌, ◌≤◌, true, false, cond, ◌==◌, nat_lt, ◌∷◌, None, refl}
 use Rattle.std.proofs.Common.{sym, ◌∙◌, ap, subst, inl, inr, arith, ⊎_elim}
 use Rattle.std.proofs.lemmas.Bool.Decides.{nat_tests}
 use Rattle.slot_word.specs.declared.births.Birth.{Birth}
-use Rattle.node_words.specs.Addresses.{directory_at, birth_at}
-use Rattle.verb_log.specs.declared.entry.Entry.{Entry}
-use Rattle.verb_log.specs.declared.entry.Verb.TheVariants.{Read, Swap}
+use Rattle.node_words.specs.Addresses.{directory_at}
+use Rattle.verb_log.specs.declared.entry.Verb.TheVariants.{Swap}
 use Rattle.verb_log.specs.Decoded.{birth}
 use Rattle.verb_log.specs.Tables.{Past, Before, here, later, word_at}
 use Rattle.verb_log.proofs.Positions.{Before-trans}
 use Rattle.verbs.specs.Programs.{Prog, ask, do_verb}
 use Rattle.race_laws.specs.Setting.{Setting}
-use Rattle.race_laws.specs.Standing.{IsTable, birth_in}
-use Rattle.race_laws.specs.Legal.{Legal, Meets}
+use Rattle.race_laws.specs.Standing.{IsTable}
+use Rattle.race_laws.specs.Legal.{Legal}
 use Rattle.race_laws.proofs.Positions.{legal_before}
 use Rattle.race_laws.proofs.Touch.{word_put}
 use Rattle.race_laws.proofs.SoundStep.{sound}
 use Rattle.race_laws.proofs.Frames.{birth_before}
 use Rattle.race_laws.proofs.Chain.{born_at}
-use Rattle.log_facts.specs.Since.{change_in, Since}
+use Rattle.log_facts.specs.Since.{change_in}
 use Rattle.log_facts.proofs.Growing.{since_before}
 use Rattle.log_facts.proofs.Within.{birth_low}
 use Rattle.log_facts.proofs.Following.{name_meets, directory_low}

@@ -1,5 +1,5 @@
 -- What is known of each place where a naming stands.
-use Rattle.std.specs.Prelude.{ℕ, ◌+◌, ◌*◌, ◌≤◌, ◌<◌, ◌^◌}
+use Rattle.std.specs.Prelude.{ℕ, ◌+◌, ◌*◌, ◌≤◌, ◌^◌}
 use Rattle.std.proofs.Props.{props}
 use Rattle.directory.specs.declared.naming.Naming.{Naming}
 use Rattle.directory.specs.declared.progress.Progress.{Progress}

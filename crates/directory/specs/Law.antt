@@ -30,8 +30,8 @@ pub record MayName (s : Setting) (q : Past) (t : Naming) : Type 0 where
 
 -- the tables below table u: child words lead to them
 pub data IsBelow (g : Geometry) (q : Past) : ℕ → ℕ → Type 0 where
-  child : (u i c : ℕ) → child_in g q u i ≡ c → c ≢ 0 → IsBelow g q u c
-  further : (u i c t : ℕ) → child_in g q u i ≡ c → c ≢ 0 → IsBelow g q c t → IsBelow g q u t
+  child : (u i c : ℕ) → i < 16 → child_in g q u i ≡ c → c ≢ 0 → IsBelow g q u c
+  further : (u i c t : ℕ) → i < 16 → child_in g q u i ≡ c → c ≢ 0 → IsBelow g q c t → IsBelow g q u t
 
 -- at a position from one on, up to another, directory word j named this table, or one below it
 pub record WasNamed (g : Geometry) (from q : Past) (j child : ℕ) : Type 0 where

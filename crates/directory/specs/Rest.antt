@@ -1,6 +1,6 @@
 -- What is left of a naming.
-use Rattle.std.specs.Prelude.{ℕ, suc, ◌+◌, ◌-◌, ◌^◌, ◌==◌, if◌then◌else◌, None}
-use Rattle.verb_log.specs.declared.entry.Verb.TheVariants.{Read, Swap}
+use Rattle.std.specs.Prelude.{suc, ◌+◌, ◌==◌, if◌then◌else◌, None}
+use Rattle.verb_log.specs.declared.entry.Verb.TheVariants.{Swap}
 use Rattle.verbs.specs.Programs.{Prog, ret, ask, do_verb}
 use Rattle.node_words.specs.Addresses.{directory_at}
 use Rattle.directory.specs.declared.naming.Naming.{Naming}
