@@ -49,7 +49,12 @@ fn run<R: Threads + Sync>(rt: &R, alloc: Global, work: &str, threads: u32) -> io
 }
 
 // What threads do on plain atomics.
-fn run_plain<R: Threads + Sync>(rt: &R, alloc: Global, work: &str, threads: u32) -> io::Result<u64> {
+fn run_plain<R: Threads + Sync>(
+    rt: &R,
+    alloc: Global,
+    work: &str,
+    threads: u32,
+) -> io::Result<u64> {
     let words = plain_words(alloc)?;
     let words = words.as_slice();
     let mut jobs: Vec<usize> = Vec::new(alloc);
@@ -58,15 +63,23 @@ fn run_plain<R: Threads + Sync>(rt: &R, alloc: Global, work: &str, threads: u32)
         jobs.push(if own { k as usize * 16 } else { 0 })?;
     }
     let told = if work == "plain_reads_one" || work == "plain_reads_own" {
-        thread::map_vec(rt, jobs, &|i: usize| match words.get(i) {
-            Some(word) => plain_reads(word),
-            None => 0,
-        })?
+        thread::map_vec(
+            rt,
+            jobs,
+            &|i: usize| match words.get(i) {
+                Some(word) => plain_reads(word),
+                None => 0,
+            },
+        )?
     } else {
-        thread::map_vec(rt, jobs, &|i: usize| match words.get(i) {
-            Some(word) => plain_swaps(word),
-            None => 0,
-        })?
+        thread::map_vec(
+            rt,
+            jobs,
+            &|i: usize| match words.get(i) {
+                Some(word) => plain_swaps(word),
+                None => 0,
+            },
+        )?
     };
     Ok(sum_of(told.as_slice()))
 }
@@ -82,7 +95,12 @@ fn main(rt: HostRuntime) -> io::Result<()> {
         None => 1,
     };
     let sum = match work {
-        "reads_one" | "reads_own" | "swaps_one" | "swaps_own" | "make" => run(&rt, rt.alloc(), work, threads)?,
+        "reads_one" | "reads_own" | "swaps_one" | "swaps_own" | "make" => run(
+            &rt,
+            rt.alloc(),
+            work,
+            threads,
+        )?,
         "plain_reads_one" | "plain_reads_own" | "plain_swaps_one" | "plain_swaps_own" => {
             run_plain(&rt, rt.alloc(), work, threads)?
         }
