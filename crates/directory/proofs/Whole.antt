@@ -7,10 +7,11 @@ use Rattle.verb_log.specs.Tables.{Past, here, word_at}
 use Rattle.verbs.specs.Programs.{Prog}
 use Rattle.race_laws.specs.Setting.{Setting}
 use Rattle.race_laws.specs.Legal.{Legal}
+use Rattle.log_facts.specs.Beside.{Firm, other}
 use Rattle.log_facts.proofs.Naming.{depth_low}
 use Rattle.pass_laws.specs.SafeIn.{SafeBy, Calmly, SafeIn}
 use Rattle.pass_laws.proofs.Bridge.{safe_in_order}
-use Rattle.pass_laws.proofs.Rules.{by_weaker, by_cond}
+use Rattle.pass_laws.proofs.Rules.{Holds, by_weaker, by_cond}
 use Rattle.directory.specs.declared.naming.Naming.{Naming}
 use Rattle.directory.specs.declared.naming.Named.{Named}
 use Rattle.directory.specs.Text.{old_depth, name_below, double, after_depth, naming}
@@ -37,6 +38,10 @@ depth_safe s c t same from z l h =
 -- a naming of any client: it makes Name and Deepen alone
 pub naming_safe : (s : Setting) (c : ℕ) (t : Naming) (q : Past) → Legal s q → MayName s q t → SafeBy Names s c q (naming t) (λ y n. HasNamed s t q y n)
 naming_safe s c t q l m = (depth_low s c q l, λ z lz sz. depth_safe s c t m.geometry q z lz (child_since s t q sz lz (child_first s t q m)))
+
+-- a fact that entries beside keep is kept through a naming
+pub names_holds : (s : Setting) (c : ℕ) (P : Past → Type 0) → Firm s c P → Holds Names s c P
+names_holds s c P f = record { others = λ q e l o h. f q e l (other o) h; own = λ q e l r h. f q e l (names_calmly s c q e r).1 h }
 
 -- .. as part of a call
 pub naming_calm : (s : Setting) (c : ℕ) (t : Naming) (q : Past) → Legal s q → MayName s q t → SafeIn s c q (naming t) (λ y n. HasNamed s t q y n)

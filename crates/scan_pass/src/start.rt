@@ -35,6 +35,7 @@ impl Pass {
         ensures job { result.task.job ≡ record { geometry = geometry; key = key.now; hash = hash; mode = mode } }
         ensures within { Within (pass_verbs (record { geometry = geometry; key = key.now; hash = hash; mode = mode })) (pass_rest result) }
         ensures waits { IsSome (next_act (pass_rest result)) }
+        ensures safe { IsSafePass (record { geometry = geometry; key = key.now; hash = hash; mode = mode }) entry (pass_rest result) }
     {
         Pass::of(
             Job {
