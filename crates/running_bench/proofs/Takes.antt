@@ -22,7 +22,7 @@ take_allowed s c k n at l is low room = subst (λ a. Allowed (among s c) l (Swap
     (λ m b stood.
     let within = take_low s k low in
     subst (Meets s (reverse m)) (sym (change_same s.geometry c m (node_at s.geometry k) (n + 2) within))
-        (take_meets s c (reverse m) (stands_legal s m b.0) k n 2 low (sym (replay_index s.geometry m (node_at s.geometry k) within) ∙ stood) (two s) (omega arith) room))
+    (take_meets s c (reverse m) (stands_legal s m b.0) k n 2 low (sym (replay_index s.geometry m (node_at s.geometry k) within) ∙ stood) (two s) (omega arith) room))
 
 pub next_low : (s : Setting) (k at : ℕ) → k < s.geometry.nodes → at ≡ node_at s.geometry k → at < s.geometry.words
 next_low s k at low is = subst (λ a. a < s.geometry.words) (sym is) (take_low s k low)

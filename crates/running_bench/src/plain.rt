@@ -29,7 +29,12 @@ pub fn plain_swaps(word: &AtomicU64) -> u64 {
         if won >= SWAPS {
             break;
         }
-        match word.compare_exchange(next, next.wrapping_add(2), Ordering::SeqCst, Ordering::SeqCst) {
+        match word.compare_exchange(
+            next,
+            next.wrapping_add(2),
+            Ordering::SeqCst,
+            Ordering::SeqCst,
+        ) {
             Ok(_) => {
                 won = won.wrapping_add(1);
                 next = next.wrapping_add(2);

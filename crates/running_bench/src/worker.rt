@@ -47,13 +47,23 @@ impl<'a> Worker<'a> {
 
     // Reads the word.
     pub fn reads(self) -> u64 {
-        let Worker { mut node, k, at, end: _ } = self;
+        let Worker {
+            mut node,
+            k,
+            at,
+            end: _,
+        } = self;
         read_all(&mut node, k, at)
     }
 
     // Wins swaps on the word.
     pub fn swaps(self) -> u64 {
-        let Worker { mut node, k, at, end } = self;
+        let Worker {
+            mut node,
+            k,
+            at,
+            end,
+        } = self;
         swap_all(&mut node, k, at, end)
     }
 }

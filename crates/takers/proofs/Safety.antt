@@ -48,19 +48,27 @@ at_most x y h = grind (arith, nat_tests)
 
 module _ (s : Setting) (c word : ℕ) where
   stores_safe : (left first at : ℕ) (q : Past) → Legal s q → Mine s.geometry q c first 3 → first ≤ at → at + left ≡ first + 2 → SafeStill s c q (stores word first at (suc left)) (StoredSome s c word)
-  stores_safe zero first at q l m low end = (mine_within s c q l first 3 at word m low (omega arith), λ z lz sz.
-      let mz = kept_since s c (λ y. Mine s.geometry y c first 3) (kept_mine s c first 3) sz lz m in
-      let me = store_meets s c z lz first 3 at word mz low (omega arith) in
-      let e = change_in s.geometry c z at word in
-      ((me, store_quiet s c z lz first 3 at word mz low (omega arith)), record {
-        mine = (kept_mine s c first 3).silent z e (lz, me) (store_silent s c z lz first 3 at word mz low (omega arith)) mz;
-        stands = word_put s.geometry z e (first + 2) (omega arith);
-      }))
-  stores_safe (suc rest) first at q l m low end = (mine_within s c q l first 3 at word m low (omega arith), λ z lz sz.
-      let mz = kept_since s c (λ y. Mine s.geometry y c first 3) (kept_mine s c first 3) sz lz m in
-      let me = store_meets s c z lz first 3 at word mz low (omega arith) in
-      let e = change_in s.geometry c z at word in
-      ((me, store_quiet s c z lz first 3 at word mz low (omega arith)), stores_safe rest first (at + 1) (e ∷ z) (lz, me) ((kept_mine s c first 3).silent z e (lz, me) (store_silent s c z lz first 3 at word mz low (omega arith)) mz) (omega arith) (omega arith)))
+  stores_safe zero first at q l m low end = (
+    mine_within s c q l first 3 at word m low (omega arith),
+    λ z lz sz.
+        let mz = kept_since s c (λ y. Mine s.geometry y c first 3) (kept_mine s c first 3) sz lz m in
+        let me = store_meets s c z lz first 3 at word mz low (omega arith) in
+        let e = change_in s.geometry c z at word in (
+          (me, store_quiet s c z lz first 3 at word mz low (omega arith)),
+          record {
+            mine = (kept_mine s c first 3).silent z e (lz, me) (store_silent s c z lz first 3 at word mz low (omega arith)) mz;
+            stands = word_put s.geometry z e (first + 2) (omega arith);
+          },
+        ),
+  )
+  stores_safe (suc rest) first at q l m low end = (
+    mine_within s c q l first 3 at word m low (omega arith),
+    λ z lz sz.
+        let mz = kept_since s c (λ y. Mine s.geometry y c first 3) (kept_mine s c first 3) sz lz m in
+        let me = store_meets s c z lz first 3 at word mz low (omega arith) in
+        let e = change_in s.geometry c z at word in
+        ((me, store_quiet s c z lz first 3 at word mz low (omega arith)), stores_safe rest first (at + 1) (e ∷ z) (lz, me) ((kept_mine s c first 3).silent z e (lz, me) (store_silent s c z lz first 3 at word mz low (omega arith)) mz) (omega arith) (omega arith)),
+  )
 
   node_zero : node_at s.geometry 0 ≡ 0
   unfolding node_at
@@ -77,25 +85,32 @@ module _ (s : Setting) (c word : ℕ) where
 
   swap_safe : (n : ℕ) (q : Past) → Legal s q → n + 3 ≤ (0 + 1) * node_size s.geometry → SafeStill s c q (ask (do_verb None (Swap (node_at s.geometry 0) n (n + 3))) (λ found. after_take word n found)) (StoredSome s c word)
   swap_safe n q l room =
-      let some = s.geometry.some in
-      (take_low s 0 (omega arith), λ z lz sz.
-      let found = word_at s.geometry z (node_at s.geometry 0) in (
-        (λ now.
-          let e = change_in s.geometry c z (node_at s.geometry 0) (n + 3) in
-          let me = take_meets s c z lz 0 n 3 (omega arith) now three (omega arith) room in
-          ((me, take_quiet s c z lz 0 n 3 (omega arith) now three (omega arith) room), chosen s c (StoredSome s c word) (e ∷ z) (found == n) (stores word n n 3) (ret None)
-              (λ h. stores_safe 2 n n (e ∷ z) (lz, me) (taken_mine s c z lz 0 n 3 (omega arith) now three (omega arith) room) (omega arith) refl)
-              (λ h. tt))),
-        (λ other. chosen s c (StoredSome s c word) z (found == n) (stores word n n 3) (ret None) (λ h. absurd (other (equal found n h))) (λ h. tt)),
-      ))
+      let some = s.geometry.some in (
+        take_low s 0 (omega arith),
+        λ z lz sz.
+            let found = word_at s.geometry z (node_at s.geometry 0) in (
+              (λ now.
+                  let e = change_in s.geometry c z (node_at s.geometry 0) (n + 3) in
+                  let me = take_meets s c z lz 0 n 3 (omega arith) now three (omega arith) room in (
+                    (me, take_quiet s c z lz 0 n 3 (omega arith) now three (omega arith) room),
+                    chosen s c (StoredSome s c word) (e ∷ z) (found == n) (stores word n n 3) (ret None)
+                        (λ h. stores_safe 2 n n (e ∷ z) (lz, me) (taken_mine s c z lz 0 n 3 (omega arith) now three (omega arith) room) (omega arith) refl)
+                        (λ h. tt),
+                  )),
+              (λ other. chosen s c (StoredSome s c word) z (found == n) (stores word n n 3) (ret None) (λ h. absurd (other (equal found n h))) (λ h. tt)),
+            ),
+      )
 
   taking_safe : (q : Past) → Legal s q → SafeStill s c q (taking (node_size s.geometry) word) (StoredSome s c word)
-  taking_safe q l = (subst (λ a. a < s.geometry.words) node_zero (let some = s.geometry.some in take_low s 0 (omega arith)), λ z lz sz.
-      let n = word_at s.geometry z 0 in
-      chosen s c (StoredSome s c word) z (nat_le (n + 3) (node_size s.geometry)) (ask (do_verb None (Swap 0 n (n + 3))) (λ found. after_take word n found)) (ret None)
-          (λ h. subst (λ a. SafeStill s c z (ask (do_verb None (Swap a n (n + 3))) (λ found. after_take word n found)) (StoredSome s c word)) node_zero
-            (swap_safe n z lz (let k = at_most (n + 3) (node_size s.geometry) h in let j = one_node (node_size s.geometry) in omega arith)))
-          (λ h. tt))
+  taking_safe q l = (
+    subst (λ a. a < s.geometry.words) node_zero (let some = s.geometry.some in take_low s 0 (omega arith)),
+    λ z lz sz.
+        let n = word_at s.geometry z 0 in
+        chosen s c (StoredSome s c word) z (nat_le (n + 3) (node_size s.geometry)) (ask (do_verb None (Swap 0 n (n + 3))) (λ found. after_take word n found)) (ret None)
+        (λ h. subst (λ a. SafeStill s c z (ask (do_verb None (Swap a n (n + 3))) (λ found. after_take word n found)) (StoredSome s c word)) node_zero
+        (swap_safe n z lz (let k = at_most (n + 3) (node_size s.geometry) h in let j = one_node (node_size s.geometry) in omega arith)))
+        (λ h. tt),
+  )
 
 -- on running words, whatever the hashes are called
 pub taker_safe : (s : Setting) (c end word : ℕ) (l : Entries) → end ≡ node_size s.geometry → MayStand (MayFollow s) l → Safe (among s c) (placed s.listed) l (taking end word) (λ m r. StoredSome s c word (reverse m) r)

@@ -41,8 +41,12 @@ pub fn both_take<P: Placer + Drop, R: Threads + Sync>(
     ensures first { IfSome result.1 (λ first. HasStored memory.setting 0 7 result.0.entries first) }
     ensures second { IfSome result.2 (λ first. HasStored memory.setting 1 9 result.0.entries first) }
 {
-    let Some(a) = seats.take() else { unreachable!() };
-    let Some(b) = seats.take() else { unreachable!() };
+    let Some(a) = seats.take() else {
+        unreachable!()
+    };
+    let Some(b) = seats.take() else {
+        unreachable!()
+    };
     let shared = &memory;
     let (one, two) = thread::join(
         rt,
