@@ -1,6 +1,7 @@
 -- Two words may be taken at a node's next word.
-use Rattle.std.specs.Prelude.{◌≡◌, ℕ, ◌+◌, ◌*◌, ◌<◌, ◌≤◌, reverse}
-use Rattle.std.proofs.Common.{sym, ◌∙◌, subst, inl, arith}
+use Rattle.std.specs.Prelude.{◌≡◌, ℕ, ◌+◌, ◌*◌, ◌/◌, ◌<◌, ◌≤◌, reverse}
+use Rattle.std.proofs.Common.{sym, ◌∙◌, ap, subst, inl, arith}
+use Rattle.node_words.specs.declared.geometry.Geometry.{Geometry}
 use Rattle.node_words.specs.Addresses.{node_at, node_size}
 use Rattle.verb_log.specs.declared.entry.Verb.TheVariants.{Swap}
 use Rattle.verb_log.proofs.InOrder.{replay_index}
@@ -25,3 +26,12 @@ take_allowed s c k n at l is low room = subst (λ a. Allowed (among s c) l (Swap
 
 pub next_low : (s : Setting) (k at : ℕ) → k < s.geometry.nodes → at ≡ node_at s.geometry k → at < s.geometry.words
 next_low s k at low is = subst (λ a. a < s.geometry.words) (sym is) (take_low s k low)
+
+-- where node k starts, and where it ends
+pub node_starts : (g h : Geometry) (nodes k at : ℕ) → g ≡ h → nodes ≡ g.nodes → at ≡ k * (g.words / nodes) → at ≡ node_at h k
+unfolding node_at node_size
+node_starts g h nodes k at e n is = is ∙ ap (λ x. k * (g.words / x)) n ∙ ap (λ (x : Geometry). k * (x.words / x.nodes)) e
+
+pub node_ends : (g h : Geometry) (nodes k end : ℕ) → g ≡ h → nodes ≡ g.nodes → end ≡ (k + 1) * (g.words / nodes) → end ≡ (k + 1) * node_size h
+unfolding node_size
+node_ends g h nodes k end e n is = is ∙ ap (λ x. (k + 1) * (g.words / x)) n ∙ ap (λ (x : Geometry). (k + 1) * (x.words / x.nodes)) e
