@@ -49,7 +49,7 @@ impl NameOp {
                 child,
                 birth,
             },
-            progress: Progress::new(),
+            progress: Progress::default(),
             at: At::Depth,
         }
     }

@@ -1,7 +1,7 @@
 //! What a naming remembers.
 
 /// The index whose word is read or swapped, and what was read.
-#[derive(Clone, Copy, Debug)]
+#[derive(Clone, Copy, Debug, Default)]
 pub struct Progress {
     /// The directory's depth, up to which the child is named.
     pub depth: u32,
@@ -12,17 +12,4 @@ pub struct Progress {
     pub word: u64,
     /// How many words may be looked at after this one.
     pub looks: u32,
-}
-
-impl Progress {
-    /// Nothing was read.
-    pub fn new() -> Progress {
-        Progress {
-            depth: 0,
-            index: 0,
-            left: 0,
-            word: 0,
-            looks: 0,
-        }
-    }
 }
