@@ -1,5 +1,5 @@
 -- The table that the end of a search tells is the one where its look ended.
-use Rattle.std.specs.Prelude.{◌≡◌, Some, None, refl}
+use Rattle.std.specs.Prelude.{◌≡◌, Some}
 use Rattle.std.proofs.Common.{sym, ap}
 use Rattle.verbs.specs.Programs.{outcome_of, mapped}
 use Rattle.pass_text.specs.declared.job.Job.{Job}

@@ -1,6 +1,6 @@
 -- A whole search, by the text.
 use Rattle.std.specs.Prelude.{◌≡◌, ℕ, List, reverse, Option, Some, None, IsSome, refl}
-use Rattle.std.proofs.Common.{sym, ap, subst}
+use Rattle.std.proofs.Common.{sym, subst}
 use Rattle.verb_log.specs.Tables.{Past, Before, here}
 use Rattle.verb_log.proofs.Positions.{Before-trans}
 use Rattle.verbs.specs.Programs.{Prog, next_act, mapped, Within}
@@ -8,7 +8,6 @@ use Rattle.race_laws.specs.Setting.{Setting}
 use Rattle.race_laws.specs.Legal.{Legal}
 use Rattle.log_facts.proofs.Passings.{passed_between}
 use Rattle.pass_text.specs.declared.job.Job.{Job}
-use Rattle.pass_text.specs.declared.job.PassMode.{PassMode}
 use Rattle.pass_text.specs.declared.job.PassMode.TheVariants.{Look}
 use Rattle.pass_text.specs.declared.passed.Passed.{Passed}
 use Rattle.pass_text.specs.declared.passed.PassEnd.{PassEnd}

@@ -1,6 +1,6 @@
 ghost use Rattle.std.specs.Prelude.{◌≡◌, ◌≤◌, IfOk};
 
-use crate::{SearchEnd, SearchOp, SearchOutcome};
+use crate::{SearchOp, SearchOutcome};
 use kv_block::Key;
 use node_words::Geometry;
 use scan_pass::{Pass, PassMode};
@@ -103,13 +103,13 @@ fn put(node: &mut PlainNode, at: u64, word: u64) -> Result<(), Fail>
 }
 
 // Runs the search to its end, and counts its verbs.
-fn run(node: &mut PlainNode, search: &mut SearchOp) -> Option<(u64, SearchEnd)>
+fn run(node: &mut PlainNode, search: &mut SearchOp) -> Option<u64>
     requires { node.old.log.geometry.words ≡ 200 }
     ensures { node.new.log.geometry ≡ node.old.log.geometry }
 {
     for verbs in 0..1000 {
         let Some(verb) = search.next() else {
-            return search.outcome().map(|end| (verbs, end));
+            return Some(verbs);
         };
         let word = done(node, &verb)?;
         search.feed(word);
@@ -139,8 +139,9 @@ fn searches_through_a_split(rt: HostRuntime) -> Result<(), Fail> {
         let key = Key::from_bytes(name.as_bytes()).ok_or("no key")?;
         let pass = Pass::start(geometry, entry, &key, HASH, PassMode::Look);
         let mut search = SearchOp::start(pass);
-        let (ran, end) = run(&mut node, &mut search).ok_or("no end")?;
-        assert!(rt; ran == verbs, "verbs after {count}");
+        let ran = run(&mut node, &mut search);
+        assert!(rt; ran == Some(verbs), "verbs after {count}");
+        let end = search.outcome().ok_or("no end")?;
         assert!(rt;
             end.table == table && search.table() == table,
             "table after {count}"
