@@ -6,14 +6,16 @@ ghost use Rattle.race_play.specs.Holding.{Holds};
 ghost use Rattle.race_play.specs.Replies.{Held, opened};
 ghost use Rattle.race_play.specs.Plays.{tag_of, lines_from, held_by, is_plain, plain_script, replayed, Replays};
 ghost use Rattle.race_play.specs.Refusals.{refusal_of};
-ghost use Rattle.race_play.specs.declared.refusal.Refusal.{Refusal};
+ghost use Rattle.trace_script.specs.declared.fault.Refusal.{Refusal};
 ghost use Rattle.race_play.specs.declared.player.PlayFault.TheVariants.{OutOfMemory, Refused};
 
-use crate::refusal::{Refusal, is_plain, lacked};
+use crate::refusal::{is_plain, lacked};
 use crate::table::Table;
 use map_model::{Calls, Nexts, Reply};
 use std::alloc::{AllocError, Global};
-use trace_script::{Line, Lines, Mode, Script, ScriptFault, Tag, Text, read_script, report_text};
+use trace_script::{
+    Line, Lines, Mode, Refusal, Script, ScriptFault, Tag, Text, read_script, report_text,
+};
 
 /// Why there is no report.
 #[derive(Clone, Copy, Debug, PartialEq, Eq)]

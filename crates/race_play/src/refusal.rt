@@ -1,25 +1,16 @@
-//! The scripts that this player lacks, and the line that tells a refusal.
-ghost use Rattle.std.specs.Prelude.{◌≡◌, ◌≤◌, ◌&&◌, IfOk, length, true, flat_map};
+//! The scripts that this player lacks.
+ghost use Rattle.std.specs.Prelude.{◌≡◌, ◌≤◌, ◌&&◌, length, true, flat_map};
 ghost use Rattle.std.specs.List.{list_all};
 ghost use Rattle.trace_script.specs.Gives.{told_of};
 ghost use Rattle.trace_script.specs.Content.{sizes_of};
 ghost use Rattle.race_play.specs.Plays.{is_plain_table, is_plain_content, is_plain_call, is_plain};
 ghost use Rattle.race_play.specs.Refusals.{plain_calls, lacked};
-ghost use Rattle.trace_script.specs.Refused.{refusal_line};
 
 use key_hash::Listed;
 use map_model::{Call, Calls, Items};
 use node_words::Geometry;
-use std::alloc::{AllocError, Global};
 use trace_script::limits::MOST_CALLS;
-use trace_script::{Script, ScriptKind, Text, refusal_text};
-
-/// A line of a script, counted from 1 or 0 where there are too many bytes, and why it is refused.
-#[derive(Clone, Copy, Debug, PartialEq, Eq)]
-pub struct Refusal {
-    pub line: u64,
-    pub kind: ScriptKind,
-}
+use trace_script::{Refusal, Script, ScriptKind};
 
 // Whether a call is an insert or a search.
 fn is_plain_call(call: &Call) -> bool
@@ -119,14 +110,5 @@ pub fn lacked(script: &Script, listed: &Listed) -> Refusal
     Refusal {
         line,
         kind: ScriptKind::Word,
-    }
-}
-
-impl Refusal {
-    /// The line that tells the refusal.
-    pub fn text(&self, alloc: Global) -> Result<Text, AllocError>
-        ensures { IfOk result (λ text. text.items ≡ refusal_line (self.now.line, self.now.kind)) }
-    {
-        refusal_text(alloc, self.line, self.kind)
     }
 }

@@ -5,9 +5,9 @@ ghost use Rattle.race_io.specs.Transfer.{TakesSome};
 ghost use Rattle.race_play.specs.Outcomes.{IsStatus, Plays, PlaysInPart, Refuses, Tells};
 
 use crate::player::{PlayFault, replay_text};
-use crate::refusal::Refusal;
 use race_io::{Sink, Source, TakeFault, put_all, take_all};
 use std::alloc::Global;
+use trace_script::Refusal;
 use trace_script::limits::MOST_BYTES;
 
 /// How a call of the program ended.

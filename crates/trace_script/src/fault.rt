@@ -3,7 +3,7 @@ ghost use Rattle.std.specs.Prelude.{◌≡◌, IfOk};
 ghost use Rattle.trace_script.specs.declared.fault.Halt.TheVariants.{OutOfMemory};
 ghost use Rattle.trace_script.specs.Refused.{kind_word, refusal_line};
 
-use crate::text::Text;
+use crate::writer::{Text, Writer};
 use std::alloc::{AllocError, AllocFailed, Global};
 use thiserror::Error;
 
@@ -59,13 +59,29 @@ impl ScriptKind {
 pub fn refusal_text(alloc: Global, line: u64, kind: ScriptKind) -> Result<Text, AllocError>
     ensures { IfOk result (λ text. text.items ≡ refusal_line (line, kind)) }
 {
-    let mut text = Text::new(alloc);
+    let mut text = Writer::new(alloc);
     text.put(b"refused line ")?;
     text.put_number(line)?;
     text.push(b' ')?;
     text.put(kind.word().as_bytes())?;
     text.push(b'\n')?;
-    Ok(text)
+    Ok(text.into_text())
+}
+
+/// A line of a script, counted from 1, or 0 where there are too many bytes, and why it is refused.
+#[derive(Clone, Copy, Debug, PartialEq, Eq)]
+pub struct Refusal {
+    pub line: u64,
+    pub kind: ScriptKind,
+}
+
+impl Refusal {
+    /// The line that tells the refusal.
+    pub fn text(&self, alloc: Global) -> Result<Text, AllocError>
+        ensures { IfOk result (λ text. text.items ≡ refusal_line (self.now.line, self.now.kind)) }
+    {
+        refusal_text(alloc, self.line, self.kind)
+    }
 }
 
 /// Why there is no script.

@@ -21,16 +21,16 @@ mod reading;
 mod report;
 mod script;
 mod table;
-mod text;
 mod word;
+mod writer;
 mod writing;
 
-pub use fault::{ScriptFault, ScriptKind, refusal_text};
+pub use fault::{Refusal, ScriptFault, ScriptKind, refusal_text};
 pub use map_model::{Item, Items, Plan, Plans};
 pub use reading::{one_text, read_script};
 pub use report::{Line, Lines, Mode, Tag, reply_text, report_text};
 pub use script::Script;
-pub use text::Text;
+pub use writer::Text;
 pub use writing::script_text;
 
 #[cfg(test)]

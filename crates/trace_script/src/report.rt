@@ -9,7 +9,7 @@ ghost use Rattle.trace_script.specs.Spelling.{spelled};
 ghost use Rattle.trace_script.specs.Report.{reply_line, head_line, map_line, outcome_line, IsOfCall, is_answered, is_open, is_changed, end_line, report};
 
 use crate::script::Script;
-use crate::text::Text;
+use crate::writer::{Text, Writer};
 use item_list::PackedList;
 use kv_block::{Key, Value};
 use map_model::{Call, MapMachine, Nexts, Reply};
@@ -53,7 +53,7 @@ pub enum Mode {
 /// A list of lines, each kept as its numbers and its reply's words.
 pub type Lines = PackedList<Line>;
 
-impl Text {
+impl Writer {
     ghost use Rattle.trace_script.specs.Report.{nexts_text, reply_line, tag_text, outcome_text, call_line, mode_text, head_line, map_line};
 
     // Appends a space and a number.
@@ -199,9 +199,9 @@ impl Text {
 pub fn reply_text(alloc: Global, reply: &Reply) -> Result<Text, AllocError>
     ensures { IfOk result (λ text. text.items ≡ reply_line reply.now) }
 {
-    let mut text = Text::new(alloc);
+    let mut text = Writer::new(alloc);
     text.put_reply(reply)?;
-    Ok(text)
+    Ok(text.into_text())
 }
 
 impl Script {
@@ -209,7 +209,7 @@ impl Script {
     ghost use Rattle.trace_script.specs.Report.{numbered_call, outcome_line, IsOfCall};
 
     // Appends a client's name, the number of its call, and the call.
-    fn put_numbered_call(&self, out: &mut Text, line: &Line) -> Result<(), AllocError>
+    fn put_numbered_call(&self, out: &mut Writer, line: &Line) -> Result<(), AllocError>
         requires { IsOfCall self.now.content line.now }
         ensures { OnOk result (out.new.items ≡ out.old.items ++ numbered_call self.now.content line.now) }
     {
@@ -221,7 +221,7 @@ impl Script {
     }
 
     // Appends a client's call with its outcome.
-    fn put_outcome_line(&self, out: &mut Text, line: &Line) -> Result<(), AllocError>
+    fn put_outcome_line(&self, out: &mut Writer, line: &Line) -> Result<(), AllocError>
         requires { IsOfCall self.now.content line.now }
         ensures { OnOk result (out.new.items ≡ out.old.items ++ outcome_line self.now.content line.now) }
     {
@@ -233,7 +233,7 @@ impl Script {
     }
 }
 
-fn put_head(out: &mut Text, mode: Mode, version: u32) -> Result<(), AllocError>
+fn put_head(out: &mut Writer, mode: Mode, version: u32) -> Result<(), AllocError>
     ensures { OnOk result (out.new.items ≡ out.old.items ++ head_line mode version) }
 {
     out.put_word_number(b"race ", u64::from(version))?;
@@ -245,7 +245,7 @@ fn put_head(out: &mut Text, mode: Mode, version: u32) -> Result<(), AllocError>
 }
 
 // Appends `map KEY VALUE` for each pair of the map.
-fn put_pairs(out: &mut Text, map: &MapMachine) -> Result<(), AllocError>
+fn put_pairs(out: &mut Writer, map: &MapMachine) -> Result<(), AllocError>
     ensures { OnOk result (out.new.items ≡ out.old.items ++ flat_map map_line (fin.entries map.now)) }
 {
     let mut pairs = map.pairs();
@@ -256,7 +256,7 @@ fn put_pairs(out: &mut Text, map: &MapMachine) -> Result<(), AllocError>
 }
 
 // Appends the lines of calls.
-fn put_outcomes(out: &mut Text, script: &Script, lines: &Lines) -> Result<(), AllocError>
+fn put_outcomes(out: &mut Writer, script: &Script, lines: &Lines) -> Result<(), AllocError>
     requires { All (λ line. IsOfCall script.now.content line) lines.now.items }
     ensures { OnOk result (out.new.items ≡ out.old.items ++ flat_map (outcome_line script.now.content) lines.now.items) }
 {
@@ -295,7 +295,7 @@ fn changing_calls(lines: &Lines) -> usize
 }
 
 // Appends the last line.
-fn put_end(out: &mut Text, lines: &Lines, next: &Nexts) -> Result<(), AllocError>
+fn put_end(out: &mut Writer, lines: &Lines, next: &Nexts) -> Result<(), AllocError>
     ensures { OnOk result (out.new.items ≡ out.old.items ++ end_line lines.now.items next.now) }
 {
     out.put_word_number(b"end calls=", answered_calls(lines) as u64)?;
@@ -319,10 +319,10 @@ pub fn report_text(
     requires { All (λ line. IsOfCall script.now.content line) lines.now.items }
     ensures { IfOk result (λ text. text.items ≡ report mode script.now lines.now.items (fin.entries map.now) next) }
 {
-    let mut text = Text::new(alloc);
+    let mut text = Writer::new(alloc);
     put_head(&mut text, mode, script.version())?;
     put_outcomes(&mut text, script, lines)?;
     put_pairs(&mut text, map)?;
     put_end(&mut text, lines, &next)?;
-    Ok(text)
+    Ok(text.into_text())
 }

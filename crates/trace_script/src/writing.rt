@@ -8,14 +8,14 @@ ghost use Rattle.trace_script.specs.ScriptText.{table_text_1, table_text_2, hash
 use crate::body::Body;
 use crate::name::Name;
 use crate::script::Script;
-use crate::text::Text;
+use crate::writer::{Text, Writer};
 use indexmap::IndexMap;
 use kv_block::Key;
 use map_model::{Calls, Item, Items};
 use node_words::Geometry;
 use std::alloc::{AllocError, Global};
 
-impl Text {
+impl Writer {
     // `hash KEY HEX`
     pub(crate) fn put_hash_line(&mut self, key: &Key, hash: u64) -> Result<(), AllocError>
         ensures { OnOk result (self.new.items ≡ self.old.items ++ line_text (hash_words (key.now, hash))) }
@@ -100,7 +100,7 @@ impl Text {
 
 impl Body {
     // Appends an item.
-    fn put_item(&self, out: &mut Text, item: &Item) -> Result<(), AllocError>
+    fn put_item(&self, out: &mut Writer, item: &Item) -> Result<(), AllocError>
         requires { item_client item.now < length self.now.clients }
         ensures { OnOk result (out.new.items ≡ out.old.items ++ item_word (names_of self.now) item.now) }
     {
@@ -118,7 +118,7 @@ impl Body {
     }
 
     // Appends items, each behind a space.
-    fn put_items(&self, out: &mut Text, items: &[Item]) -> Result<(), AllocError>
+    fn put_items(&self, out: &mut Writer, items: &[Item]) -> Result<(), AllocError>
         requires { AllByRecursion (λ item. item_client item < length self.now.clients) items.now }
         ensures { OnOk result (out.new.items ≡ out.old.items ++ spaced_items (names_of self.now) items.now) }
     {
@@ -133,7 +133,7 @@ impl Body {
 impl Body {
     // `schedule ITEM ITEM ..`
     #[tactic(auto, using(crate::proofs::Joined::schedule_line))]
-    fn put_schedule_line(&self, out: &mut Text, items: &Items) -> Result<(), AllocError>
+    fn put_schedule_line(&self, out: &mut Writer, items: &Items) -> Result<(), AllocError>
         requires { AllByRecursion (λ item. item_client item < length self.now.clients) items.now.items }
         ensures { OnOk result (out.new.items ≡ out.old.items ++ line_text (schedule_words (names_of self.now) items.now.items)) }
     {
@@ -142,7 +142,7 @@ impl Body {
         out.push(b'\n')
     }
     // The lines of the listed hashes.
-    fn put_hashes(&self, out: &mut Text) -> Result<(), AllocError>
+    fn put_hashes(&self, out: &mut Writer) -> Result<(), AllocError>
         ensures { OnOk result (out.new.items ≡ out.old.items ++ text_of (map hash_words self.now.hashes)) }
     {
         for (key, hash) in self.hashes().pairs() {
@@ -152,7 +152,7 @@ impl Body {
     }
 
     // The lines of the schedule.
-    fn put_schedules(&self, out: &mut Text) -> Result<(), AllocError>
+    fn put_schedules(&self, out: &mut Writer) -> Result<(), AllocError>
         requires { AllByRecursion (AllByRecursion (λ item. item_client item < length self.now.clients)) self.now.schedules }
         ensures { OnOk result (out.new.items ≡ out.old.items ++ text_of (map (schedule_words (names_of self.now)) self.now.schedules)) }
     {
@@ -163,7 +163,7 @@ impl Body {
     }
 
     // The lines of the stops.
-    fn put_stops(&self, out: &mut Text) -> Result<(), AllocError>
+    fn put_stops(&self, out: &mut Writer) -> Result<(), AllocError>
         requires { AllByRecursion (λ e. e.0 < length self.now.clients) self.now.stops }
         ensures { OnOk result (out.new.items ≡ out.old.items ++ text_of (map (stop_words (names_of self.now)) self.now.stops)) }
     {
@@ -177,7 +177,7 @@ impl Body {
 
 // The lines of the clients.
 #[tactic(auto, using(crate::proofs::Joined::text_of_append))]
-fn put_clients(out: &mut Text, clients: &IndexMap<Name, Calls>) -> Result<(), AllocError>
+fn put_clients(out: &mut Writer, clients: &IndexMap<Name, Calls>) -> Result<(), AllocError>
     ensures { OnOk result (out.new.items ≡ out.old.items ++ text_of (flat_map client_words (map client_view clients.now.entries))) }
 {
     let mut rest = clients.iter();
@@ -190,7 +190,7 @@ fn put_clients(out: &mut Text, clients: &IndexMap<Name, Calls>) -> Result<(), Al
 impl Body {
     // All lines behind line 2, but for `end`.
     #[tactic(auto, using(crate::proofs::Joined::text_of_append))]
-    fn put_content(&self, out: &mut Text) -> Result<(), AllocError>
+    fn put_content(&self, out: &mut Writer) -> Result<(), AllocError>
         requires stops { AllByRecursion (λ e. e.0 < length self.now.clients) self.now.stops }
         requires items { AllByRecursion (AllByRecursion (λ item. item_client item < length self.now.clients)) self.now.schedules }
         ensures { OnOk result (out.new.items ≡ out.old.items ++ text_of (content_words self.now)) }
@@ -202,7 +202,7 @@ impl Body {
     }
 }
 
-impl Text {
+impl Writer {
     // Line 2.
     fn put_table(&mut self, version: u32, geometry: &Geometry, tries: u32) -> Result<(), AllocError>
         requires least { 1 ≤ version }
@@ -221,10 +221,10 @@ impl Text {
 pub fn script_text(alloc: Global, script: &Script) -> Result<Text, AllocError>
     ensures { IfOk result (λ text. text.items ≡ text_of_script script.now) }
 {
-    let mut text = Text::new(alloc);
+    let mut text = Writer::new(alloc);
     text.put_header(script.version())?;
     text.put_table(script.version(), &script.geometry(), script.tries())?;
     script.body().put_content(&mut text)?;
     text.put(b"end\n")?;
-    Ok(text)
+    Ok(text.into_text())
 }

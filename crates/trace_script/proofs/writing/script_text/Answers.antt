@@ -15,4 +15,4 @@ returns c =
     ∙ ap (λ n. line_text (header_words s.version) ++ line_text (table_words s.version (sizes_of s.geometry n))) c.tries.ensures.value in
     let head = line_text (header_words s.version) ++ line_text (table_words s.version (sizes_of s.geometry s.tries)) in
     let content = c.in_ok-put_content.ensures ∙ ap (λ t. t ++ text_of (content_words c.body.result.now)) table ∙ ap (λ (b : Content). head ++ text_of (content_words b)) c.body.ensures.value in
-    c.in_ok-put.ensures ∙ ap (λ t. t ++ codes "end\n") content ∙ whole_text s
+    c.into_text.ensures ∙ c.in_ok-put.ensures ∙ ap (λ t. t ++ codes "end\n") content ∙ whole_text s

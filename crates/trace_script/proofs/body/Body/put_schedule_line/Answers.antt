@@ -10,4 +10,4 @@ returns c =
     let names = names_of c.args.self.now in
     let items = c.args.items.now.items in
     rw (schedule_line names items) (on_ok_weaker c.push.result (λ e. e
-    ∙ rw (c.in_ok-put_items.ensures, c.in_ok-put.ensures, c.as_slice.ensures) (three_parts c.args.out.now.items (codes "schedule") (spaced_items names items) (10 ∷ []))) c.push.ensures.appended)
+    ∙ rw (c.in_ok-put_items.ensures, c.in_ok-put.ensures, c.as_slice.ensures) (three_parts c.args.out.now.items (codes "schedule") (spaced_items names items) (10 ∷ []))) c.push.ensures)

@@ -1,93 +1,69 @@
-//! Texts: lists of bytes that grow.
-ghost use Rattle.std.specs.Prelude.{◌≡◌, ◌<◌, ◌≤◌, ◌^◌, ◌++◌, ◌∷◌, [], length, slice_get, Some, OnOk, OnErr, IsOk};
+//! Texts, and how they are written.
+ghost use Rattle.std.specs.Prelude.{◌≡◌, ◌<◌, ◌++◌, ◌∷◌, [], OnOk};
 ghost use Rattle.std.specs.Fmt.{decimal};
 ghost use Rattle.trace_script.specs.Spelling.{spelled, hex_text, hex_number, hex_digit};
 
 use crate::word::is_plainly_spelled;
+use item_list::List;
 use std::alloc::{AllocError, Global};
 use std::marker::Model;
 
-/// A text: a list of bytes. A clause sees its items, and its room: how many more fit before memory is asked for.
+/// A text: a list of bytes.
+pub type Text = List<u8>;
+
+// Writes a text. A clause sees the text so far.
 #[derive(Debug, Drop)]
-pub struct Text {
-    bytes: Vec<u8>,
+pub struct Writer {
+    alloc: Global,
+    text: Text,
 }
 
-impl Model for Text {
-    ghost use Rattle.std.specs.Prelude.{ℕ, ◌-◌, vec_len, vec_capacity};
+impl Model for Writer {
+    ghost use Rattle.std.specs.Prelude.{ℕ};
     ghost use Rattle.item_list.specs.RoomyList.{RoomyList};
 
     ghost Value = { RoomyList ℕ };
 
-    ghost view = { λ list. record { items = list.bytes.items; room = vec_capacity list.bytes - vec_len list.bytes } };
+    ghost view = { λ writer. writer.text };
 }
 
-impl Text {
-    /// The text with no byte.
-    pub fn new(alloc: Global) -> Text
+impl Writer {
+    // Nothing written yet.
+    pub fn new(alloc: Global) -> Writer
         ensures { result.items ≡ [] }
     {
-        Text {
-            bytes: Vec::new(alloc),
+        Writer {
+            alloc,
+            text: Text::new(alloc),
         }
     }
 
-    /// How many bytes there are.
-    pub fn len(&self) -> usize
-        ensures { result ≡ length self.now.items }
+    // The text that was written.
+    pub fn into_text(self) -> Text
+        ensures { result.items ≡ self.items }
     {
-        self.bytes.len()
+        self.text
     }
 
-    /// The byte at place `i`, counted from 0.
-    pub fn get(&self, i: usize) -> &u8
-        requires { i < length self.now.items }
-        ensures { slice_get self.now.items i ≡ Some result.now }
-    {
-        &self.bytes[i]
-    }
-
-    /// Makes room for at least one more byte. A refusal changes nothing.
-    pub fn reserve(&mut self) -> Result<(), AllocError>
-        ensures items { self.new.items ≡ self.old.items }
-        ensures room { OnOk result (1 ≤ self.new.room) }
-        ensures refused { OnErr result (self.new ≡ self.old) }
-        ensures succeeds { 1 ≤ self.old.room → IsOk result }
-    {
-        self.bytes.reserve(1)
-    }
-
-    /// Appends the byte. It answers Ok where there is room for one more. A refusal leaves the text as it was.
+    // Appends the byte.
     pub fn push(&mut self, byte: u8) -> Result<(), AllocError>
-        ensures appended { OnOk result (self.new.items ≡ self.old.items ++ byte ∷ []) }
-        ensures refused { OnErr result (self.new.items ≡ self.old.items) }
-        ensures succeeds { 1 ≤ self.old.room → IsOk result }
+        ensures { OnOk result (self.new.items ≡ self.old.items ++ byte ∷ []) }
     {
-        self.bytes.reserve(1)?;
-        self.bytes.push_reserved(byte);
-        Ok(())
-    }
-
-    /// The bytes, in order.
-    pub fn as_slice(&self) -> &[u8]
-        ensures { result.now ≡ self.now.items }
-    {
-        self.bytes.as_slice()
+        self.text.push(byte)
     }
 
     // Appends bytes as they are.
     pub(crate) fn put(&mut self, bytes: &[u8]) -> Result<(), AllocError>
         ensures { OnOk result (self.new.items ≡ self.old.items ++ bytes.now) }
     {
-        self.bytes.extend_from_slice(bytes)
+        self.text.append(bytes)
     }
 
     // Appends a number in decimal digits.
     pub(crate) fn put_number(&mut self, number: u64) -> Result<(), AllocError>
         ensures { OnOk result (self.new.items ≡ self.old.items ++ decimal number) }
     {
-        let alloc = *self.bytes.allocator();
-        let text = number.to_string(alloc)?;
+        let text = number.to_string(self.alloc)?;
         self.put(text.as_bytes())
     }
 

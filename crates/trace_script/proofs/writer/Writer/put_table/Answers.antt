@@ -3,7 +3,7 @@ use Rattle.std.proofs.lemmas.Result.{on_ok_weaker}
 use Rattle.trace_script.specs.Content.{sizes_of}
 use Rattle.trace_script.specs.ScriptText.{table_words, line_text}
 use Rattle.trace_script.proofs.Joined.{table_1-written, table_2-written}
-use Rattle.trace_script.proofs.text.Text.put_table.Goals as goal
+use Rattle.trace_script.proofs.writer.Writer.put_table.Goals as goal
 
 pub returns-then-version-eq1 : goal.returns-then-version-eq1
 returns-then-version-eq1 c =

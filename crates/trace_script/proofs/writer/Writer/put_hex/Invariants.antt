@@ -1,6 +1,6 @@
 use Rattle.std.proofs.Common.{◌≡◌, ◌++◌, drop}
 use Rattle.trace_script.specs.Spelling.{hex_text}
-use Rattle.trace_script.proofs.text.Text.put_hex.Given as goal
+use Rattle.trace_script.proofs.writer.Writer.put_hex.Given as goal
 
 -- the digits so far, and those of the bytes that are left
 abbrev pub invariant-loop-byte : goal.invariant-loop-byte
