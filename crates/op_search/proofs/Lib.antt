@@ -1,3 +1,3 @@
 mod Mapped
 mod Ends
-mod Whole
+pub mod Whole
