@@ -24,16 +24,24 @@ def program(name="race_cli"):
     return os.path.join(crate, "out", name)
 
 
+def time_of(command, text=b"", status=0, wanted=None):
+    """The time of a run of a command on a text, which ends with this status and this output, where one is given."""
+    start = time.perf_counter()
+    done = subprocess.run(command, input=text, stdout=subprocess.PIPE)
+    taken = time.perf_counter() - start
+    if done.returncode != status or wanted not in (None, done.stdout):
+        sys.exit("status %d: %r" % (done.returncode, done.stdout[:60]))
+    return taken
+
+
 def least_of(command, text=b"", status=0, wanted=None):
-    """The least time of five runs of a command on a text, which end with this status and this output, where one is given."""
-    times = []
-    for _ in range(5):
-        start = time.perf_counter()
-        done = subprocess.run(command, input=text, stdout=subprocess.PIPE)
-        times.append(time.perf_counter() - start)
-        if done.returncode != status or wanted not in (None, done.stdout):
-            sys.exit("status %d: %r" % (done.returncode, done.stdout[:60]))
-    return min(times)
+    """The least time of five such runs."""
+    return min(time_of(command, text, status, wanted) for _ in range(5))
+
+
+def least_in_turns(commands, turns=9):
+    """The least times of commands that take turns, so that what slows the machine for a while slows each of them."""
+    return [min(times) for times in zip(*([time_of(command) for command in commands] for _ in range(turns)))]
 
 
 def least(text, status=0, wanted=None):

@@ -1,8 +1,8 @@
 //! Looks, for bench/pass to time.
 //!
 //! The program's one word names the work, and it prints how many words the work read: `pass` does 2 million looks by a `Pass`
-//! on a node, verb by verb, and `plain` reads the same words of a `Vec` by a plain loop. Of the 40 keys that are looked for in
-//! turn half are in the table. With any other word, or none, it makes the table alone.
+//! on a node, verb by verb; `node` reads the same words of the node by a plain loop, and `plain` those of a `Vec`. Of the 40 keys
+//! that are looked for in turn half are in the table. With any other word, or none, it makes the table alone.
 #![tactic(auto)]
 
 ghost use Rattle.std.specs.Prelude.{◌≡◌, IfSome, IfOk};
@@ -168,6 +168,94 @@ fn pass_round(node: &mut PlainNode, pass: &mut Pass, keys: &[Key]) -> u64
     verbs
 }
 
+// The word of the node at this address.
+#[inline(always)]
+fn node_word(node: &mut PlainNode, at: u64) -> u64
+    requires { node.old.log.geometry.words ≡ 4_096 }
+    ensures { node.new.log.geometry ≡ node.old.log.geometry }
+{
+    match word_read(node, &Verb::Read { at }) {
+        Some(word) => word,
+        None => 0,
+    }
+}
+
+// Reads the words of a slot's block.
+fn read_words(node: &mut PlainNode, slot: &Slot, words: &mut [u64])
+    requires { node.old.log.geometry.words ≡ 4_096 }
+    ensures { node.new.log.geometry ≡ node.old.log.geometry }
+{
+    let mut at = slot.at;
+    for word in words.iter_mut().take(usize::from(slot.len)) {
+        *word = node_word(node, at);
+        at = at.wrapping_add(1);
+    }
+}
+
+// A look by a plain loop over the node, with room for the words of a block: how many words it read.
+fn node_look(
+    node: &mut PlainNode,
+    geometry: &Geometry,
+    key: &Key,
+    hash: u64,
+    block: &mut [u64],
+) -> u64
+    requires { node.old.log.geometry.words ≡ 4_096 }
+    ensures { node.new.log.geometry ≡ node.old.log.geometry }
+{
+    let print = fingerprint(hash);
+    let row = places(geometry, hash).row();
+    let mut reads = 1u64;
+    if node_word(node, header_at(TABLE)) != 256 {
+        return 0;
+    }
+    for place in row.iter().take(21) {
+        let word = node_word(node, TABLE + 20 + u64::from(*place));
+        reads = reads.wrapping_add(1);
+        if word != 0 && (word >> 56) as u8 == print {
+            if let Some(slot) = read_slot(word) {
+                read_words(node, &slot, block);
+                reads = reads.wrapping_add(u64::from(slot.len));
+                if is_block_of(block, &slot, key) {
+                    return reads;
+                }
+            }
+        }
+    }
+    reads.wrapping_add(u64::from(node_word(node, TABLE + 19 + u64::from(row[0])) == 256))
+}
+
+// Whether the words read of a slot's block are of the key.
+fn is_block_of(words: &[u64], slot: &Slot, key: &Key) -> bool {
+    match words.get(0..usize::from(slot.len)) {
+        Some(block) => has_key(block, key),
+        None => false,
+    }
+}
+
+// One plain look over the node for each key.
+fn node_round(node: &mut PlainNode, geometry: &Geometry, keys: &[Key], block: &mut [u64]) -> u64
+    requires { node.old.log.geometry.words ≡ 4_096 }
+    ensures { node.new.log.geometry ≡ node.old.log.geometry }
+{
+    let mut reads = 0u64;
+    for key in keys {
+        reads = reads.wrapping_add(node_look(node, geometry, key, Mixed.hash(key), block));
+    }
+    reads
+}
+
+// All looks by plain loops over the node.
+fn node_looks(node: &mut PlainNode, geometry: &Geometry, keys: &[Key], block: &mut [u64]) -> u64
+    requires { node.old.log.geometry.words ≡ 4_096 }
+{
+    let mut reads = 0u64;
+    for _ in 0..ROUNDS {
+        reads = reads.wrapping_add(node_round(node, geometry, keys, block));
+    }
+    reads
+}
+
 // The word at this address.
 fn word_at(words: &[u64], at: u64) -> u64 {
     match words.get(at as usize) {
@@ -231,6 +319,10 @@ fn work(alloc: Global, word: &str) -> Result<u64, AllocError> {
         "pass" => {
             let mut pass = Pass::start(geometry, None, first, 0, PassMode::Look);
             Ok(passes(&mut node, &mut pass, &keys))
+        }
+        "node" => {
+            let mut block = vec![in alloc; 0u64; 137]?;
+            Ok(node_looks(&mut node, &geometry, &keys, &mut block))
         }
         "plain" => Ok(plain_looks(&words_of(alloc, &mut node)?, &geometry, &keys)),
         _ => Ok(0),

@@ -1,8 +1,8 @@
 //! Verbs on running words, for bench/running to time.
 //!
 //! The program's words are the work and the number of threads, at most 4. Each thread does the work on the next word of node 0
-//! (`one`) or of a node of its own (`own`): `reads_one` and `reads_own` read it 20 million times, `swaps_one` and `swaps_own`
-//! win 200,000 swaps on it, each of which takes two words. `plain_reads_one` and the like do the same on plain atomics of
+//! (`one`) or of a node of its own (`own`): `reads_one` and `reads_own` read it 100 million times, `swaps_one` and `swaps_own`
+//! win 500,000 swaps on it, each of which takes two words. `plain_reads_one` and the like do the same on plain atomics of
 //! 64 bits. It prints the sum of what was told, and the nanoseconds from the start of the threads to their end. With any other
 //! work, or none, it does nothing and prints 0 0.
 #![tactic(auto)]
@@ -21,8 +21,8 @@ use std::thread::Threads;
 use std::time::{Clock, Instant};
 use std::{env, io, thread};
 
-// Four nodes of 2,097,152 words.
-const WORDS: u64 = 8_388_608;
+// Four nodes of 4,194,304 words.
+const WORDS: u64 = 16_777_216;
 
 // The sum of all.
 fn sum_of(told: &[u64]) -> u64 {

@@ -7,11 +7,11 @@ use key_hash::Mixed;
 use std::alloc::{AllocError, Global};
 use verbs::Verbs;
 
-pub const READS: u64 = 20_000_000;
+pub const READS: u64 = 100_000_000;
 
-pub const SWAPS: u64 = 200_000;
+pub const SWAPS: u64 = 500_000;
 
-pub const TRIES: u64 = 100_000_000;
+pub const TRIES: u64 = 1_000_000_000;
 
 // A client's node, and the next word of a node of the memory, which ends at `end`.
 #[derive(Drop)]

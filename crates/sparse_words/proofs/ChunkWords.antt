@@ -36,7 +36,7 @@ get-there xs i d low e = same-there (slice_get xs i) (get_or xs i d) d (at_get x
 pub no-items : (n len : ℕ) → len ≡ n → nat_eq len 0 ≡ true → n ≡ 0
 no-items n len e f = grind (arith, nat_tests)
 
-pub whole-items : (n len : ℕ) → len ≡ n → nat_eq len 0 ≡ false → n % 4096 ≡ 0 → n ≤ 4096 → n ≡ 4096
+pub whole-items : (n len : ℕ) → len ≡ n → nat_eq len 0 ≡ false → n % 8192 ≡ 0 → n ≤ 8192 → n ≡ 8192
 whole-items n len e f g h = let some : len ≢ 0 = grind (arith, nat_tests) in omega arith
 
 zeros : (xs : List ℕ) (k : ℕ) → All IsZero xs → get_or xs k 0 ≡ 0
@@ -46,20 +46,20 @@ zeros xs k h = elim (cases_lt k (length xs)) [
 ]
 
 pub opened : (xs : List (Vec ℕ Global)) (i : ℕ) (c d : Vec ℕ Global) → i < length xs → slice_get xs i ≡ Some c → length c.items ≡ 0 → All IsZero d.items
-    → (a : ℕ) → chunk_word (slice_get (slice_set xs i d) (a / 4096)) (a % 4096) ≡ chunk_word (slice_get xs (a / 4096)) (a % 4096)
-opened xs i c d low there none nought a = elim (cases_eq (a / 4096) i) [
+    → (a : ℕ) → chunk_word (slice_get (slice_set xs i d) (a / 8192)) (a % 8192) ≡ chunk_word (slice_get xs (a / 8192)) (a % 8192)
+opened xs i c d low there none nought a = elim (cases_eq (a / 8192) i) [
   | inl e ↦
-      let k = a % 4096 in
+      let k = a % 8192 in
       ap (λ (n : ℕ). chunk_word (slice_get (slice_set xs i d) n) k) e
       ∙ ap (λ (o : Option (Vec ℕ Global)). chunk_word o k) (get_set-same xs i d low)
       ∙ zeros d.items k nought
       ∙ sym (get_or_past c.items k 0 (omega (arith, none)))
       ∙ sym (ap (λ (o : Option (Vec ℕ Global)). chunk_word o k) there)
       ∙ sym (ap (λ (n : ℕ). chunk_word (slice_get xs n) k) e)
-  | inr n ↦ ap (λ (o : Option (Vec ℕ Global)). chunk_word o (a % 4096)) (get_set-other xs i (a / 4096) d n)
+  | inr n ↦ ap (λ (o : Option (Vec ℕ Global)). chunk_word o (a % 8192)) (get_set-other xs i (a / 8192) d n)
 ]
 
-same_place : (a at : ℕ) → a / 4096 ≡ at / 4096 → a % 4096 ≡ at % 4096 → a ≡ at
+same_place : (a at : ℕ) → a / 8192 ≡ at / 8192 → a % 8192 ≡ at % 8192 → a ≡ at
 same_place a at e f = omega arith
 
 picked : {X : Type 0} (t : Bool) (x y z : X) → t ≡ true → z ≡ x → z ≡ (if t then x else y)
@@ -70,32 +70,32 @@ passed : {X : Type 0} (t : Bool) (x y z : X) → t ≡ false → z ≡ y → z �
 passed true x y z e f = absurd (cc)
 passed false x y z e f = f
 
-pub put-word : (xs : List (Vec ℕ Global)) (at w : ℕ) (c d : Vec ℕ Global) → at / 4096 < length xs → slice_get xs (at / 4096) ≡ Some c → at % 4096 < length c.items
-    → d.items ≡ slice_set c.items (at % 4096) w
-    → (a : ℕ) → chunk_word (slice_get (slice_set xs (at / 4096) d) (a / 4096)) (a % 4096) ≡ (if a == at then w else chunk_word (slice_get xs (a / 4096)) (a % 4096))
-put-word xs at w c d low there room is a = elim (cases_eq (a / 4096) (at / 4096)) [
+pub put-word : (xs : List (Vec ℕ Global)) (at w : ℕ) (c d : Vec ℕ Global) → at / 8192 < length xs → slice_get xs (at / 8192) ≡ Some c → at % 8192 < length c.items
+    → d.items ≡ slice_set c.items (at % 8192) w
+    → (a : ℕ) → chunk_word (slice_get (slice_set xs (at / 8192) d) (a / 8192)) (a % 8192) ≡ (if a == at then w else chunk_word (slice_get xs (a / 8192)) (a % 8192))
+put-word xs at w c d low there room is a = elim (cases_eq (a / 8192) (at / 8192)) [
   | inl e ↦
-      let k = a % 4096 in
-      let now : chunk_word (slice_get (slice_set xs (at / 4096) d) (a / 4096)) k ≡ get_or (slice_set c.items (at % 4096) w) k 0 =
-      ap (λ (n : ℕ). chunk_word (slice_get (slice_set xs (at / 4096) d) n) k) e
-      ∙ ap (λ (o : Option (Vec ℕ Global)). chunk_word o k) (get_set-same xs (at / 4096) d low)
+      let k = a % 8192 in
+      let now : chunk_word (slice_get (slice_set xs (at / 8192) d) (a / 8192)) k ≡ get_or (slice_set c.items (at % 8192) w) k 0 =
+      ap (λ (n : ℕ). chunk_word (slice_get (slice_set xs (at / 8192) d) n) k) e
+      ∙ ap (λ (o : Option (Vec ℕ Global)). chunk_word o k) (get_set-same xs (at / 8192) d low)
       ∙ ap (λ (ys : List ℕ). get_or ys k 0) is in
-      let old : chunk_word (slice_get xs (a / 4096)) k ≡ get_or c.items k 0 =
+      let old : chunk_word (slice_get xs (a / 8192)) k ≡ get_or c.items k 0 =
       ap (λ (n : ℕ). chunk_word (slice_get xs n) k) e ∙ ap (λ (o : Option (Vec ℕ Global)). chunk_word o k) there in
-      elim (cases_eq k (at % 4096)) [
+      elim (cases_eq k (at % 8192)) [
         | inl f ↦
             let same = same_place a at e f in
             let yes : (a == at) ≡ true = grind (arith, nat_tests, same) in
-            picked _ _ _ _ yes (now ∙ ap (λ (n : ℕ). get_or (slice_set c.items (at % 4096) w) n 0) f ∙ get_or-set_same c.items (at % 4096) w 0 room)
+            picked _ _ _ _ yes (now ∙ ap (λ (n : ℕ). get_or (slice_set c.items (at % 8192) w) n 0) f ∙ get_or-set_same c.items (at % 8192) w 0 room)
         | inr g ↦
-            let other : a ≢ at = λ q. g (ap (λ (n : ℕ). n % 4096) q) in
+            let other : a ≢ at = λ q. g (ap (λ (n : ℕ). n % 8192) q) in
             let no : (a == at) ≡ false = grind (arith, nat_tests, other) in
-            passed _ _ _ _ no (now ∙ get_or-set_other c.items (at % 4096) k w 0 g ∙ sym old)
+            passed _ _ _ _ no (now ∙ get_or-set_other c.items (at % 8192) k w 0 g ∙ sym old)
       ]
   | inr n ↦
-      let other : a ≢ at = λ q. n (ap (λ (n : ℕ). n / 4096) q) in
+      let other : a ≢ at = λ q. n (ap (λ (n : ℕ). n / 8192) q) in
       let no : (a == at) ≡ false = grind (arith, nat_tests, other) in
-      passed _ _ _ _ no (ap (λ (o : Option (Vec ℕ Global)). chunk_word o (a % 4096)) (get_set-other xs (at / 4096) (a / 4096) d n))
+      passed _ _ _ _ no (ap (λ (o : Option (Vec ℕ Global)). chunk_word o (a % 8192)) (get_set-other xs (at / 8192) (a / 8192) d n))
 ]
 
 none-there : (xs : List (Vec ℕ Global)) (i k : ℕ) → ((j : ℕ) (d : Vec ℕ Global) → j < length xs → IsEmpty (get_or xs j d)) → chunk_word (slice_get xs i) k ≡ 0
@@ -103,8 +103,8 @@ none-there [] i k h = refl
 none-there (x ∷ xs) zero k h = ap (λ (ys : List ℕ). get_or ys k 0) (h 0 x (omega arith))
 none-there (x ∷ xs) (suc i) k h = none-there xs i k (λ j d l. h (suc j) d (omega arith))
 
-pub zero-there : (xs : List (Vec ℕ Global)) → All IsEmpty xs → (a : ℕ) → chunk_word (slice_get xs (a / 4096)) (a % 4096) ≡ 0
-zero-there xs h a = none-there xs (a / 4096) (a % 4096) h
+pub zero-there : (xs : List (Vec ℕ Global)) → All IsEmpty xs → (a : ℕ) → chunk_word (slice_get xs (a / 8192)) (a % 8192) ≡ 0
+zero-there xs h a = none-there xs (a / 8192) (a % 8192) h
 
 chunk-empty : (c : Vec ℕ Global) → IsEmpty c → IsChunk c
 chunk-empty c e = let n : length c.items ≡ 0 = ap (λ (ys : List ℕ). length ys) e in (omega (arith, n), omega (arith, n))

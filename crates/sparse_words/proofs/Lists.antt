@@ -58,7 +58,7 @@ module _ (len : ℕ) (word : ℕ → ℕ) (spare : List ℕ) (seen : Words) (vie
   seen-put at w new place put = let n = seen-len in listed-put len at w word new (omega arith) put ∙ ap (λ (ws : List ℕ). slice_set ws at w) items
 
 -- an address stands in a chunk
-pub chunk-there : (len at chunks : ℕ) → at < len → len ≤ 4096 * chunks → at / 4096 < chunks
+pub chunk-there : (len at chunks : ℕ) → at < len → len ≤ 8192 * chunks → at / 8192 < chunks
 chunk-there len at chunks low wide = omega arith
 
 pub no-room : (spare : List ℕ) → spare ≡ [] → room_of spare ≡ 0

@@ -5,9 +5,9 @@ use Rattle.std.specs.Prelude.{◌≡◌, ◌≤◌, ℕ, ◌%◌, Vec, [], lengt
 abbrev pub IsZero : ℕ → Type 0
 IsZero word = word ≡ 0
 
--- a chunk has 4,096 words, or none where nothing was put into it
+-- a chunk has 8,192 words, or none where nothing was put into it
 abbrev pub IsChunk : Vec ℕ Global → Type 0
-IsChunk chunk = (length chunk.items % 4096 ≡ 0) × (length chunk.items ≤ 4096)
+IsChunk chunk = (length chunk.items % 8192 ≡ 0) × (length chunk.items ≤ 8192)
 
 abbrev pub IsEmpty : Vec ℕ Global → Type 0
 IsEmpty chunk = chunk.items ≡ []

@@ -5,4 +5,4 @@ use Rattle.sparse_words.specs.Chunks.{chunk_word}
 
 -- the word at an address
 abbrev pub word_of : Chunks → ℕ → ℕ
-word_of c at = chunk_word (slice_get c.chunks.items (at / 4096)) (at % 4096)
+word_of c at = chunk_word (slice_get c.chunks.items (at / 8192)) (at % 8192)

@@ -13,4 +13,4 @@ listed len word = map word (range_with_len 0 len)
 
 -- 1 where the spare chunk is whole, else 0
 abbrev pub room_of : List ℕ → ℕ
-room_of spare = length spare / 4096
+room_of spare = length spare / 8192

@@ -4,7 +4,7 @@ ghost use Rattle.sparse_words.specs.Chunks.{IsChunk, IsZero, IsEmpty};
 
 use std::alloc::{AllocError, Global};
 
-// Chunks of 4,096 words, of which those that nothing was put into are empty or behind the last one that is told, and a chunk of
+// Chunks of 8,192 words, of which those that nothing was put into are empty or behind the last one that is told, and a chunk of
 // zeros to spare, or none.
 #[derive(Debug, Drop)]
 pub struct Chunks {
@@ -24,12 +24,12 @@ impl Chunks {
     #[tactic(auto, using(crate::proofs::ChunkWords::empties))]
     pub fn zeroed(alloc: Global, len: u64) -> Result<Chunks, AllocError>
         ensures zero { IfOk result (λ c. (a : ℕ) → word_of c a ≡ 0) }
-        ensures wide { IfOk result (λ c. len < 4096 * vec_capacity c.chunks) }
+        ensures wide { IfOk result (λ c. len < 8192 * vec_capacity c.chunks) }
         ensures spare { IfOk result (λ c. c.spare.items ≡ []) }
     {
         Ok(Chunks {
             alloc,
-            chunks: Vec::with_capacity(alloc, (len / 4096 + 1) as usize)?,
+            chunks: Vec::with_capacity(alloc, (len / 8192 + 1) as usize)?,
             spare: Vec::new(alloc),
         })
     }
@@ -52,12 +52,12 @@ impl Chunks {
     #[tactic(auto, using(crate::proofs::ChunkWords::spares))]
     pub fn reserve(&mut self) -> Result<(), AllocError>
         ensures words { self.new.chunks ≡ self.old.chunks }
-        ensures spare { OnOk result (length self.new.spare.items ≡ 4096) }
+        ensures spare { OnOk result (length self.new.spare.items ≡ 8192) }
         ensures refused { OnErr result (length self.new.spare.items ≡ length self.old.spare.items) }
-        ensures succeeds { length self.old.spare.items ≡ 4096 → IsOk result }
+        ensures succeeds { length self.old.spare.items ≡ 8192 → IsOk result }
     {
         if self.spare.is_empty() {
-            self.spare.resize(4096, 0)?;
+            self.spare.resize(8192, 0)?;
         }
         Ok(())
     }
@@ -66,8 +66,8 @@ impl Chunks {
     pub fn word(&self, at: u64) -> u64
         ensures { result ≡ word_of self.now at }
     {
-        match self.chunks.get((at / 4096) as usize) {
-            Some(chunk) => match chunk.get((at % 4096) as usize) {
+        match self.chunks.get((at / 8192) as usize) {
+            Some(chunk) => match chunk.get((at % 8192) as usize) {
                 Some(word) => *word,
                 None => 0,
             },
@@ -78,14 +78,14 @@ impl Chunks {
     // Makes the chunk of an address that is told, where nothing was put into it, of the spare one.
     #[tactic(auto, using(crate::proofs::ChunkWords::opens))]
     fn open(&mut self, at: u64)
-        requires place { at / 4096 < length self.old.chunks.items }
-        requires spare { length self.old.spare.items ≡ 4096 }
+        requires place { at / 8192 < length self.old.chunks.items }
+        requires spare { length self.old.spare.items ≡ 8192 }
         ensures words { (a : ℕ) → word_of self.new a ≡ word_of self.old a }
-        ensures there { (c : Vec ℕ Global) → slice_get self.new.chunks.items (at / 4096) ≡ Some c → length c.items ≡ 4096 }
+        ensures there { (c : Vec ℕ Global) → slice_get self.new.chunks.items (at / 8192) ≡ Some c → length c.items ≡ 8192 }
         ensures len { length self.new.chunks.items ≡ length self.old.chunks.items }
         ensures capacity { vec_capacity self.old.chunks ≤ vec_capacity self.new.chunks }
     {
-        let i = (at / 4096) as usize;
+        let i = (at / 8192) as usize;
         if self.chunks[i].is_empty() {
             std::mem::swap(&mut self.chunks[i], &mut self.spare);
         }
@@ -94,22 +94,22 @@ impl Chunks {
     // Puts a word at an address whose chunk is made.
     #[tactic(auto, using(crate::proofs::ChunkWords::puts))]
     fn put_there(&mut self, at: u64, word: u64)
-        requires place { at / 4096 < length self.old.chunks.items }
-        requires there { (c : Vec ℕ Global) → slice_get self.old.chunks.items (at / 4096) ≡ Some c → length c.items ≡ 4096 }
+        requires place { at / 8192 < length self.old.chunks.items }
+        requires there { (c : Vec ℕ Global) → slice_get self.old.chunks.items (at / 8192) ≡ Some c → length c.items ≡ 8192 }
         ensures words { (a : ℕ) → word_of self.new a ≡ (if a == at then word else word_of self.old a) }
         ensures capacity { vec_capacity self.old.chunks ≤ vec_capacity self.new.chunks }
     {
-        self.chunks[(at / 4096) as usize][(at % 4096) as usize] = word;
+        self.chunks[(at / 8192) as usize][(at % 8192) as usize] = word;
     }
 
     // Puts a word at an address of whose chunk there is room to tell. It takes no memory.
     pub fn put(&mut self, at: u64, word: u64)
-        requires place { at / 4096 < vec_capacity self.old.chunks }
-        requires spare { length self.old.spare.items ≡ 4096 }
+        requires place { at / 8192 < vec_capacity self.old.chunks }
+        requires spare { length self.old.spare.items ≡ 8192 }
         ensures words { (a : ℕ) → word_of self.new a ≡ (if a == at then word else word_of self.old a) }
         ensures capacity { vec_capacity self.old.chunks ≤ vec_capacity self.new.chunks }
     {
-        self.reach((at / 4096) as usize);
+        self.reach((at / 8192) as usize);
         self.open(at);
         self.put_there(at, word);
     }

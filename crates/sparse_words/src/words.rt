@@ -20,7 +20,7 @@ impl Model for SparseWords {
 
     ghost view = { λ words. record { items = listed words.len (word_of words.chunks); room = room_of words.chunks.spare.items } };
 
-    ghost invariant = { λ words. words.len ≤ 4096 * vec_capacity words.chunks.chunks };
+    ghost invariant = { λ words. words.len ≤ 8192 * vec_capacity words.chunks.chunks };
 }
 
 impl SparseWords {

@@ -7,7 +7,7 @@ use Rattle.sparse_words.proofs.chunks.Chunks.open.Goals as goal
 pub returns-then-is_empty-clause-words : goal.returns-then-is_empty-clause-words
 returns-then-is_empty-clause-words c =
     let s = c.args.self.now in
-    let i = c.args.at / 4096 in
+    let i = c.args.at / 8192 in
     let v : Vec ℕ Global = c.index.result.now in
     let w : Vec ℕ Global = c.index_mut.result.now in
     let a = there-at s.chunks.items i v c.requires.place c.index.ensures in
@@ -20,13 +20,13 @@ pub returns-then-is_empty-clause-there : goal.returns-then-is_empty-clause-there
 returns-then-is_empty-clause-there c d e =
     let s = c.args.self.now in
     let x : Vec ℕ Global = c.swap.new.x in
-    let a = get_set-same s.chunks.items (c.args.at / 4096) x c.requires.place in
+    let a = get_set-same s.chunks.items (c.args.at / 8192) x c.requires.place in
     ap (λ (u : Vec ℕ Global). length u.items) (same-there _ d x e a ∙ c.swap.ensures.x_after) ∙ c.requires.spare
 
 pub returns-else-is_empty-clause-there : goal.returns-else-is_empty-clause-there
 returns-else-is_empty-clause-there c d e =
     let s = c.args.self.now in
-    let i = c.args.at / 4096 in
+    let i = c.args.at / 8192 in
     let v : Vec ℕ Global = c.index.result.now in
     let a = there-at s.chunks.items i v c.requires.place c.index.ensures in
     let same : d ≡ v = same-there _ d v e a in
