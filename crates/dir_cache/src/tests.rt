@@ -1,3 +1,4 @@
+//! Entries that are set, asked for and forgotten.
 use crate::DirCache;
 use node_words::Geometry;
 use std::test::Fail;

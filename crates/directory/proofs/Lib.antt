@@ -1,7 +1,7 @@
-mod Bounds
+pub mod Bounds
 mod Indices
-mod Child
+pub mod Child
 mod Looking
 mod Each
 mod Doubling
-mod Whole
+pub mod Whole

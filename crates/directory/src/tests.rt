@@ -1,3 +1,4 @@
+//! Namings of a child, with and without doubling.
 ghost use Rattle.std.specs.Prelude.{◌≡◌, IfOk};
 
 use crate::{NameOp, Named};

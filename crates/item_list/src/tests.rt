@@ -1,3 +1,4 @@
+//! Lists that grow, and items that are kept as words.
 ghost use Rattle.std.specs.Prelude.{◌≡◌, ◌+◌, ◌≤◌, ◌∷◌, ◌++◌, [], slice_index};
 
 use super::*;

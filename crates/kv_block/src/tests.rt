@@ -1,3 +1,4 @@
+//! Blocks of pairs, and words that are no block.
 use super::*;
 use std::test::Fail;
 

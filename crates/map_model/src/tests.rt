@@ -1,3 +1,4 @@
+//! Steps of the map, points, and histories that are legal or not.
 use super::*;
 use kv_block::{Key, Value};
 use std::alloc::Global;

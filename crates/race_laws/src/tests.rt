@@ -1,3 +1,4 @@
+//! Small logs, and which of their entries meet their rows.
 ghost use Rattle.std.specs.Prelude.{◌≡◌, ◌*◌, ◌^◌, ◌<◌, IfOk};
 
 mod steps;

@@ -1,3 +1,4 @@
+//! Calls that start again.
 use crate::{Rise, RiseEnd, Start};
 use std::test::Fail;
 use verbs::Call;

@@ -1,3 +1,4 @@
+//! Passes through each state of a split, with their numbers of verbs.
 ghost use Rattle.std.specs.Prelude.{◌≡◌, ◌≤◌, IfOk};
 
 use crate::{Job, Pass, PassEnd, PassMode};

@@ -1,3 +1,4 @@
+//! The pairs of blocks that a slot named before and after an entry.
 ghost use Rattle.std.specs.Prelude.{◌≡◌, ◌<◌, ◌^◌};
 ghost use Rattle.std.specs.Option.{option_map, option_to_list};
 ghost use Rattle.kv_block.specs.Packing.{pair_of};

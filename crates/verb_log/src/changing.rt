@@ -1,3 +1,4 @@
+//! The changes of the map that a log made.
 ghost use Rattle.std.specs.Prelude.{◌≡◌, ◌<◌, length, reverse, take, Some, slice_get, IfOk};
 ghost use Rattle.std.specs.Option.{option_to_list};
 ghost use Rattle.node_words.specs.Opening.{opening};

@@ -1,3 +1,5 @@
+//! Verbs, and the entries that they leave.
+
 /// One verb of a client, on one word.
 #[derive(Clone, Copy, PartialEq, Eq, Debug)]
 pub enum Verb {

@@ -1,3 +1,5 @@
+//! The kinds of entries.
+
 /// What an entry of a log does, by the role of its word and by its old and new word.
 #[derive(Clone, Copy, PartialEq, Eq, Debug)]
 pub enum Kind {

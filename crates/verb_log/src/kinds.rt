@@ -1,3 +1,4 @@
+//! The rows of the table of kinds that look at the words alone.
 ghost use Rattle.std.specs.Prelude.{◌≡◌, Some};
 ghost use Rattle.verb_log.specs.Decoded.{Body, Empty, Full, content, header, header_with};
 ghost use Rattle.verb_log.specs.Tables.{is_among, is_address, covers};

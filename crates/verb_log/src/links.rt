@@ -1,3 +1,4 @@
+//! Numbers told for spans of words, the first of them for each word.
 ghost use Rattle.std.specs.Prelude.{◌≡◌, ℕ, ◌<◌, length, None, slice_index_or};
 ghost use Rattle.verb_log.specs.Indexed.{told_number};
 

@@ -1,3 +1,4 @@
+//! The log of a run, and the words after it.
 ghost use Rattle.std.specs.Prelude.{◌≡◌, ◌+◌, ◌<◌, ◌≤◌, [], ◌∷◌, ◌++◌, length, reverse, Some, slice_get, slice_index, OnOk, OnErr, IfOk, IsOk};
 ghost use Rattle.verb_log.specs.Replay.{replay, WellMade};
 ghost use Rattle.verb_log.specs.Changes.{changes};

@@ -1,3 +1,4 @@
+//! The role of a word: what it is for, by its address.
 ghost use Rattle.std.specs.Prelude.{◌≡◌, ◌<◌, ◌≤◌, ◌-◌};
 ghost use Rattle.node_words.specs.Roles.{first_table_of, offset_role, outer_role};
 ghost use Rattle.verb_log.specs.PlainRoles.{plain_role};

@@ -1,3 +1,4 @@
+//! Logs of few entries with their kinds and changes.
 use crate::{Entry, Kind, Log};
 use kv_block::{Change, Key, Value};
 use node_words::Geometry;
