@@ -3,8 +3,8 @@ use Rattle.std.proofs.Common.{◌≡◌, ℕ, ◌+◌, ◌<◌, ◌≤◌, Bool,
 use Rattle.std.specs.Prelude.{slice_index_or, ◌⊎◌, Result, Ok, Err, OnOk, OnErr}
 use Rattle.std.proofs.lemmas.List.{drop_more}
 use Rattle.map_model.specs.declared.calls.Call.{Call}
-use Rattle.trace_script.specs.Content.{Content, calls_at}
-use Rattle.trace_script.specs.Valid.{call_count}
+use Rattle.script_value.specs.Content.{Content, calls_at}
+use Rattle.script_value.specs.Valid.{call_count}
 use Rattle.race_play.specs.Plays.{is_plain_call}
 use Rattle.race_play.specs.Refusals.{plain_calls}
 

@@ -1,9 +1,9 @@
 -- What it means that a script is of this form.
 use Rattle.std.proofs.Common.{◌≡◌, ℕ, ◌≤◌, nat_lt, Bool, true, false, cond, List, length, Some, None, refl, ap, ◌∙◌, arith, Result, Ok, Err}
 use Rattle.std.proofs.lemmas.Bool.Decides.{nat_tests}
-use Rattle.trace_script.specs.Content.{ScriptValue, calls_at}
-use Rattle.trace_script.specs.Rules.{Told, Refusal, script_of}
-use Rattle.trace_script.specs.Gives.{told_of}
+use Rattle.script_value.specs.Content.{ScriptValue, calls_at}
+use Rattle.script_reader.specs.Rules.{Told, Refusal, script_of}
+use Rattle.script_reader.specs.Gives.{told_of}
 use Rattle.race_play.specs.Layout.{IsOneTable}
 use Rattle.race_play.specs.Plays.{is_plain, if_plain, plain_script}
 use Rattle.race_play.specs.Refusals.{refused, refusal_of, lacked}

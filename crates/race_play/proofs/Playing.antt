@@ -5,15 +5,15 @@ use Rattle.std.specs.List.{All}
 use Rattle.std.specs.Prelude.{IsTrue, IfOk, Result, Ok, Err}
 use Rattle.kv_block.specs.Bytes.{key_eq}
 use Rattle.kv_block.proofs.Keys.{key_eq-is, key_eq-same}
-use Rattle.trace_script.specs.Content.{Content, calls_at}
-use Rattle.trace_script.specs.Report.{IsOfCall}
+use Rattle.script_value.specs.Content.{Content, calls_at}
+use Rattle.play_report.specs.Report.{IsOfCall}
 use Rattle.std.proofs.lemmas.List.{take_more, length-take-le}
 use Rattle.map_model.specs.Machine.{is_change, search_reply}
 use Rattle.map_model.specs.declared.calls.Call.{Call}
 use Rattle.map_model.specs.declared.calls.Call.TheVariants.{Insert, Search, Update, Delete, Resize}
 use Rattle.map_model.specs.declared.calls.Reply.{Reply}
-use Rattle.trace_script.specs.declared.report.Line.{Line}
-use Rattle.trace_script.specs.declared.report.Tag.{Tag}
+use Rattle.play_report.specs.declared.report.Line.{Line}
+use Rattle.play_report.specs.declared.report.Tag.{Tag}
 use Rattle.race_play.specs.Replies.{Held, opened, reply_to, held_after, with_pair}
 use Rattle.race_play.specs.Plays.{tag_of, line_of, lines_from, held_by}
 

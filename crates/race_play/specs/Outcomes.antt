@@ -3,8 +3,8 @@ use Rattle.std.specs.Prelude.{◌≡◌, ℕ, List, Option, Some, None, ◌⊎�
 use Rattle.std.specs.Io.KnownBytes.{Appends, IsAtEnd}
 use Rattle.race_io.specs.Transfer.{TakesAll, AppendsPart}
 use Rattle.race_io.specs.Counts.{Rose}
-use Rattle.trace_script.specs.Rules.{Refusal}
-use Rattle.trace_script.specs.Refused.{refusal_line}
+use Rattle.script_reader.specs.Rules.{Refusal}
+use Rattle.script_reader.specs.Refused.{refusal_line}
 use Rattle.race_play.specs.Plays.{Replays, plain_script}
 use Rattle.race_play.specs.Refusals.{refusal_of}
 

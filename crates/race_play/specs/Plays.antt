@@ -6,14 +6,14 @@ use Rattle.map_model.specs.Machine.{is_change, is_quiet}
 use Rattle.map_model.specs.declared.calls.Call.{Call}
 use Rattle.map_model.specs.declared.calls.Call.TheVariants.{Insert, Search, Update, Delete, Resize}
 use Rattle.map_model.specs.declared.calls.Reply.{Reply}
-use Rattle.trace_script.specs.Content.{ScriptValue, Sizes, Content, stop_at, calls_at}
-use Rattle.trace_script.specs.Rules.{Told, Refusal, script_of}
-use Rattle.trace_script.specs.Gives.{told_of}
-use Rattle.trace_script.specs.Report.{report}
-use Rattle.trace_script.specs.declared.report.Line.{Line}
-use Rattle.trace_script.specs.declared.report.Mode.TheVariants.{Replay}
-use Rattle.trace_script.specs.declared.report.Tag.{Tag}
-use Rattle.trace_script.specs.declared.report.Tag.TheVariants.{Point, Nothing}
+use Rattle.script_value.specs.Content.{ScriptValue, Sizes, Content, stop_at, calls_at}
+use Rattle.script_reader.specs.Rules.{Told, Refusal, script_of}
+use Rattle.script_reader.specs.Gives.{told_of}
+use Rattle.play_report.specs.Report.{report}
+use Rattle.play_report.specs.declared.report.Line.{Line}
+use Rattle.play_report.specs.declared.report.Mode.TheVariants.{Replay}
+use Rattle.play_report.specs.declared.report.Tag.{Tag}
+use Rattle.play_report.specs.declared.report.Tag.TheVariants.{Point, Nothing}
 use Rattle.race_play.specs.Replies.{Held, opened, reply_to, held_after}
 
 -- the replies of the map have a point, which is how many changes there were before; the others have none

@@ -1,10 +1,10 @@
 -- The line of a script that is refused: the first that breaks a rule of the grammar, else the first that this player lacks.
 use Rattle.std.specs.Prelude.{◌≡◌, ℕ, ◌+◌, ◌==◌, ◌&&◌, not, Bool, true, false, List, [], ◌∷◌, ◌++◌, length, Option, Some, None, Result, Ok, Err, if◌then◌else◌}
 use Rattle.map_model.specs.declared.calls.Call.{Call}
-use Rattle.trace_script.specs.declared.fault.ScriptKind.{ScriptKind}
-use Rattle.trace_script.specs.declared.fault.ScriptKind.TheVariants as kind
-use Rattle.trace_script.specs.Content.{Sizes, Content, calls_at}
-use Rattle.trace_script.specs.Rules.{Told, Refusal, script_of}
+use Rattle.script_reader.specs.declared.fault.ScriptKind.{ScriptKind}
+use Rattle.script_reader.specs.declared.fault.ScriptKind.TheVariants as kind
+use Rattle.script_value.specs.Content.{Sizes, Content, calls_at}
+use Rattle.script_reader.specs.Rules.{Told, Refusal, script_of}
 use Rattle.race_play.specs.Plays.{is_plain, is_plain_table, is_plain_call}
 
 -- how many inserts and searches stand before the first other call

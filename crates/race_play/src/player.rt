@@ -1,12 +1,12 @@
 //! The play of a script of one client, and its report.
 ghost use Rattle.std.specs.Prelude.{◌≡◌, ◌≤◌, ◌↔◌, ℕ, ◌∷◌, [], IsTrue, IfOk, OnOk, Some, None, Err, length, true};
-ghost use Rattle.trace_script.specs.Gives.{told_of};
-ghost use Rattle.trace_script.specs.declared.report.Tag.TheVariants.{Point, Nothing};
+ghost use Rattle.script_reader.specs.Gives.{told_of};
+ghost use Rattle.play_report.specs.declared.report.Tag.TheVariants.{Point, Nothing};
 ghost use Rattle.race_play.specs.Holding.{Holds};
 ghost use Rattle.race_play.specs.Replies.{Held, opened};
 ghost use Rattle.race_play.specs.Plays.{tag_of, lines_from, held_by, is_plain, plain_script, replayed, Replays};
 ghost use Rattle.race_play.specs.Refusals.{refusal_of};
-ghost use Rattle.trace_script.specs.declared.fault.Refusal.{Refusal};
+ghost use Rattle.script_reader.specs.declared.fault.Refusal.{Refusal};
 ghost use Rattle.race_play.specs.declared.player.PlayFault.TheVariants.{OutOfMemory, Refused};
 
 use crate::refusal::{is_plain, lacked};
@@ -105,10 +105,8 @@ pub fn replay_text(alloc: Global, bytes: &[u8]) -> Result<Text, PlayFault>
         }
         Err(ScriptFault::OutOfMemory) => return Err(PlayFault::OutOfMemory),
     };
-    let listed = script.placer(alloc)?;
-    let items = script.items(alloc)?;
-    if !is_plain(&script, &listed, &items) {
-        return Err(PlayFault::Refused(lacked(&script, &listed)));
+    if !is_plain(&script) {
+        return Err(PlayFault::Refused(lacked(&script)));
     }
     Ok(report(alloc, &script)?)
 }

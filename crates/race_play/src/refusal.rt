@@ -1,13 +1,12 @@
 //! The scripts that this player lacks.
-ghost use Rattle.std.specs.Prelude.{◌≡◌, ◌≤◌, ◌&&◌, length, true, flat_map};
+ghost use Rattle.std.specs.Prelude.{◌≡◌, ◌≤◌, ◌&&◌, length, true};
 ghost use Rattle.std.specs.List.{list_all};
-ghost use Rattle.trace_script.specs.Gives.{told_of};
-ghost use Rattle.trace_script.specs.Content.{sizes_of};
+ghost use Rattle.script_reader.specs.Gives.{told_of};
+ghost use Rattle.script_value.specs.Content.{sizes_of};
 ghost use Rattle.race_play.specs.Plays.{is_plain_table, is_plain_content, is_plain_call, is_plain};
 ghost use Rattle.race_play.specs.Refusals.{plain_calls, lacked};
 
-use key_hash::Listed;
-use map_model::{Call, Calls, Items};
+use map_model::{Call, Calls};
 use node_words::Geometry;
 use trace_script::limits::MOST_CALLS;
 use trace_script::{Refusal, Script, ScriptKind};
@@ -58,34 +57,26 @@ fn is_plain_table(geometry: &Geometry) -> bool
 }
 
 // Whether the lines behind the first two are of this form.
-fn is_plain_content(script: &Script, listed: &Listed, items: &Items) -> bool
-    requires listed { listed.now ≡ script.now.content.hashes }
-    requires items { items.now.items ≡ flat_map (λ line. line) script.now.content.schedules }
+fn is_plain_content(script: &Script) -> bool
     ensures { result ≡ is_plain_content script.now.content }
 {
-    listed.len() == 0
+    !script.has_hashes()
         && script.clients() == 1
         && script.stop(0).is_none()
-        && items.len() == 0
+        && !script.has_items()
         && script.calls(0).len() <= MOST_CALLS as usize
         && are_plain(script.calls(0))
 }
 
-/// Whether a script, of which these are the listed hashes and the items of its schedule, is of this form.
-pub fn is_plain(script: &Script, listed: &Listed, items: &Items) -> bool
-    requires listed { listed.now ≡ script.now.content.hashes }
-    requires items { items.now.items ≡ flat_map (λ line. line) script.now.content.schedules }
+/// Whether a script is of this form.
+pub fn is_plain(script: &Script) -> bool
     ensures { result ≡ is_plain (told_of script.now) }
 {
-    script.version() == 1
-        && is_plain_table(&script.geometry())
-        && is_plain_content(script, listed, items)
+    script.version() == 1 && is_plain_table(&script.geometry()) && is_plain_content(script)
 }
 
-/// What this player lacks first of a script of another form, of which these are the listed hashes. It goes away once all
-/// scripts are played.
-pub fn lacked(script: &Script, listed: &Listed) -> Refusal
-    requires { listed.now ≡ script.now.content.hashes }
+/// What this player lacks first of a script of another form. It goes away once all scripts are played.
+pub fn lacked(script: &Script) -> Refusal
     ensures line { result.line ≡ (lacked (told_of script.now)).0 }
     ensures kind { result.kind ≡ (lacked (told_of script.now)).1 }
 {
@@ -102,10 +93,10 @@ pub fn lacked(script: &Script, listed: &Listed) -> Refusal
         };
     }
     script.is_script();
-    let line = if listed.len() == 0 {
-        4 + plain_calls(script.calls(0))
-    } else {
+    let line = if script.has_hashes() {
         3
+    } else {
+        4 + plain_calls(script.calls(0))
     };
     Refusal {
         line,

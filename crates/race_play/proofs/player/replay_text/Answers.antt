@@ -1,5 +1,5 @@
 use Rattle.std.proofs.Common.{◌≡◌, true, rules}
-use Rattle.trace_script.specs.Gives.{told_of}
+use Rattle.script_reader.specs.Gives.{told_of}
 use Rattle.race_play.specs.Plays.{is_plain}
 use Rattle.race_play.proofs.Plainness.{plain-some}
 use Rattle.race_play.proofs.player.replay_text.Goals as goal

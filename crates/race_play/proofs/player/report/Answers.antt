@@ -2,10 +2,10 @@ use Rattle.std.proofs.Common.{◌≡◌, ◌∷◌, [], ℕ, List, length, sym, 
 use Rattle.std.specs.FinMap as map
 use Rattle.std.specs.List.{All}
 use Rattle.map_model.specs.declared.calls.Call.{Call}
-use Rattle.trace_script.specs.Content.{calls_at}
-use Rattle.trace_script.specs.Report.{report, IsOfCall}
-use Rattle.trace_script.specs.declared.report.Line.{Line}
-use Rattle.trace_script.specs.declared.report.Mode.TheVariants.{Replay}
+use Rattle.script_value.specs.Content.{calls_at}
+use Rattle.play_report.specs.Report.{report, IsOfCall}
+use Rattle.play_report.specs.declared.report.Line.{Line}
+use Rattle.play_report.specs.declared.report.Mode.TheVariants.{Replay}
 use Rattle.node_words.specs.declared.geometry.Geometry.{Geometry}
 use Rattle.race_play.specs.Replies.{opened}
 use Rattle.race_play.specs.Plays.{held_by, lines_from}

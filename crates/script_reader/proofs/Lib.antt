@@ -1,0 +1,13 @@
+pub mod ReadItems
+pub mod Schedules
+pub mod Placed
+pub mod Turns
+pub mod Steps
+pub mod Found
+pub mod Taken
+pub mod FoundScript
+pub mod FoundHead
+pub mod Plain
+pub mod Again
+pub mod AgainLines
+pub mod AgainScript

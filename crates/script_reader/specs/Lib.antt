@@ -1,0 +1,5 @@
+pub mod Rules
+pub mod Gives
+pub mod Drafts
+pub mod Tables
+pub mod Refused

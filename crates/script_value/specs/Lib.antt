@@ -1,0 +1,4 @@
+pub mod Content
+pub mod ScriptText
+pub mod Valid
+pub mod Made

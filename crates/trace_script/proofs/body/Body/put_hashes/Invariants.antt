@@ -1,7 +1,0 @@
-use Rattle.std.proofs.Common.{◌≡◌, ◌++◌, drop, map}
-use Rattle.trace_script.specs.ScriptText.{hash_words, text_of}
-use Rattle.trace_script.proofs.body.Body.put_hashes.Given as goal
-
--- the lines so far, and those that are left
-abbrev pub invariant-loop-key : goal.invariant-loop-key
-invariant-loop-key l = l.out.items ++ text_of (map hash_words (drop l.key-index l.self.hashes)) ≡ l.fn.out.items ++ text_of (map hash_words l.self.hashes)

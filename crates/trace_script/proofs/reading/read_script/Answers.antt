@@ -1,5 +1,0 @@
-use Rattle.trace_script.proofs.AgainScript.{only-read}
-use Rattle.trace_script.proofs.reading.read_script.Goals as goal
-
-pub returns-clause-only : goal.returns-clause-only
-returns-clause-only c = λ s h text. only-read c.args.bytes.now c.read_whole.result s c.read_whole.ensures.exact h text

@@ -1,9 +1,0 @@
-use Rattle.std.proofs.Common.{◌≡◌, ◌++◌, ◌∷◌, drop}
-use Rattle.std.specs.List.{flat_map}
-use Rattle.std.specs.Fmt.{decimal}
-use Rattle.trace_script.specs.Report.{nexts_text}
-use Rattle.trace_script.proofs.writer.Writer.put_nexts.Given as goal
-
--- the numbers so far, and those that are left
-abbrev pub invariant-loop-i : goal.invariant-loop-i
-invariant-loop-i l = l.self.items ++ flat_map (λ m. 44 ∷ decimal m) (drop l.i l.next) ≡ l.fn.self.items ++ nexts_text l.next
