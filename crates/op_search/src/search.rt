@@ -79,6 +79,16 @@ impl SearchOp {
         self.pass.table()
     }
 
+    /// What the search answers. None exactly while `next` is Some. `outcome` of `Machine` tells with it the table.
+    pub fn outcome(&self) -> Option<SearchOutcome>
+        ensures { result ≡ option_map (λ end. end.outcome) (outcome_of (search_rest self.now)) }
+    {
+        match Machine::outcome(self) {
+            Some(end) => Some(end.outcome),
+            None => None,
+        }
+    }
+
     /// Whether the search has ended.
     #[inline(always)]
     pub fn has_ended(&self) -> bool

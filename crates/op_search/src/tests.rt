@@ -1,3 +1,4 @@
+//! Searches through each state of a split.
 ghost use Rattle.std.specs.Prelude.{◌≡◌, ◌≤◌, IfOk};
 
 use crate::{SearchOp, SearchOutcome};
@@ -141,7 +142,7 @@ fn searches_through_a_split(rt: HostRuntime) -> Result<(), Fail> {
         let mut search = SearchOp::start(pass);
         let ran = run(&mut node, &mut search);
         assert!(rt; ran == Some(verbs), "verbs after {count}");
-        let end = search.outcome().ok_or("no end")?;
+        let end = Machine::outcome(&search).ok_or("no end")?;
         assert!(rt;
             end.table == table && search.table() == table,
             "table after {count}"

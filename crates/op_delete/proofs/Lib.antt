@@ -1,0 +1,4 @@
+pub mod Looking
+pub mod Ends
+pub mod Bounds
+pub mod Whole
