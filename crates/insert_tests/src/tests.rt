@@ -1,0 +1,3 @@
+//! The tests, by what they play.
+mod inserts;
+mod takings;

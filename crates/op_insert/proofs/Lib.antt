@@ -1,0 +1,18 @@
+pub mod PartEnds
+mod Owning
+pub mod Words
+mod Placing
+mod Choosing
+mod Helping
+mod Filling
+pub mod Parts
+pub mod Committing
+pub mod Bounds
+pub mod Withdrawn
+pub mod Whole
+mod Looks
+mod Acts
+mod Bits
+mod Choices
+mod Onward
+mod Ended

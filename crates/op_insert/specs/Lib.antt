@@ -1,0 +1,8 @@
+pub mod Text
+pub mod Bound
+pub mod Law
+pub mod ParentWords
+pub mod Looking
+pub mod Rest
+pub mod AtFits
+pub mod InsertRest

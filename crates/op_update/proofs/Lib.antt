@@ -1,0 +1,4 @@
+pub mod Looking
+pub mod Bounds
+pub mod Kept
+pub mod Whole

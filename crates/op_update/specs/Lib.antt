@@ -1,0 +1,6 @@
+pub mod Text
+pub mod Bound
+pub mod Law
+pub mod Rest
+pub mod AtFits
+pub mod Ends
