@@ -1,0 +1,5 @@
+pub mod Words
+pub mod Begin
+pub mod Move
+pub mod Text
+pub mod Bound
