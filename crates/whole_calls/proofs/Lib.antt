@@ -1,0 +1,9 @@
+mod Shared
+mod Fitting
+mod Inside
+mod Points
+mod Plain
+mod Depths
+mod Inserting
+mod Walking
+mod Resizing
