@@ -71,7 +71,7 @@ pub record NoPlace (s : Setting) (c : ℕ) (call : Call) (from q : Past) : Type 
   pub tries : ℕ
   pub none : NoRoom s (inserting_of s c pair tries) since till passed
 
--- by the key's header of a table, which was read, that table is plain at the greatest depth
+-- at a position by the key's header of a table that table was plain at the greatest depth
 pub record FullTable (s : Setting) (key : List ℕ) (from q : Past) : Type 0 where
   pub at : Past
   pub from_then : Before from at
@@ -90,9 +90,9 @@ abbrev pub HadNoPlace : Setting → ℕ → Call → Past → Past → Type 0
 HadNoPlace s c (Insert key value) from q = NoPlace s c (Insert key value) from q
 HadNoPlace s c _ from q = Unit {0}
 
--- why a call was refused, or which split it did. Again: as many counted swaps were lost as might be. FullDepth: a plain header of the
--- greatest depth was read. NoBlock, FullWords: the next word of each node was read in the call as the listed number, and so many words
--- more go past that node's end.
+-- what is known of why a call was refused, or which split it did. Again: the number told is that of the swaps that might be lost.
+-- FullDepth: a table was plain at the greatest depth by the key's header. NoBlock, FullWords: at positions of the call the next word of
+-- each node was the listed number, and so many words more go past that node's end.
 abbrev pub Cause : Setting → ℕ → Call → State → Past → Past → Reply → Type 0
 Cause s c call k from q (Again lost) = lost ≡ k.tries
 Cause s c call k from q (FullDepth depth) = (depth ≡ s.geometry.max_depth) × FullTable s (key_of call) from q × HadNoPlace s c call from q
