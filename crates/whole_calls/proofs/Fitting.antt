@@ -15,6 +15,7 @@ use Rattle.split_laws.proofs.Around.{fits_firm}
 use Rattle.whole_calls.specs.Fits.{TicketFits, FreshFits, StaysFitting}
 use Rattle.whole_calls.specs.Law.{LeavesFitting}
 use Rattle.whole_calls.proofs.Shared.{start_shared}
+use Rattle.whole_calls.proofs.Caching.{after_depth, after_at}
 
 pub ticket_firm : (s : Setting) (c : ℕ) (ticket : Option Ticket) → Firm s c (TicketFits s c ticket)
 ticket_firm s c None q e l bs h = tt
@@ -44,13 +45,14 @@ stays_fitting s c k p q b l f = record {
 }
 
 pub leaves_fitting : LeavesFitting
-leaves_fitting s c k n call first l before e lg b f r a = record {
-  geometry = a.geometry ∙ f.geometry;
-  client = a.client ∙ f.client;
-  depth = a.cache.depth ∙ f.depth;
+leaves_fitting s c k call first l before e lg b f r = record {
+  geometry = f.geometry;
+  client = f.client;
+  depth = after_depth k.cache e ∙ f.depth;
   starts = λ i t x. ⊎_elim (λ (y : entry_of k.cache i ≡ Some t). start_before s b lg i t (f.starts i t y))
-      (λ (y : (i % 2 ^ k.cache.depth ≡ hash s (key_of call) % 2 ^ k.cache.depth) × (e.table ≡ Some t)).
-      start_shared s (reverse l) lg (hash s (key_of call)) i (sym (subst (λ d. i % 2 ^ d ≡ hash s (key_of call) % 2 ^ d) f.depth y.0)) t (r.start t y.1)) (a.cache.each i t x);
-  owns = subst (λ v. Owns s c v (reverse l)) (sym a.area) r.owns;
-  ticket = subst (λ o. TicketFits s c o (reverse l)) (sym a.ticket) r.ticket;
+      (λ (y : (i % 2 ^ k.cache.depth ≡ e.hash % 2 ^ k.cache.depth) × (e.table ≡ Some t)).
+      start_shared s (reverse l) lg (hash s (key_of call)) i
+      (sym (subst (λ d. i % 2 ^ d ≡ hash s (key_of call) % 2 ^ d) f.depth (subst (λ h. i % 2 ^ k.cache.depth ≡ h % 2 ^ k.cache.depth) r.of_key y.0))) t (r.start t y.1)) (after_at k.cache e i t x);
+  owns = r.owns;
+  ticket = r.ticket;
 }

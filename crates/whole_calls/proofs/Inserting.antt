@@ -83,7 +83,7 @@ use Rattle.begin_laws.specs.States.{Untouched}
 use Rattle.split_laws.specs.Ticket.{Fits}
 use Rattle.split_laws.specs.Law.{SplitBy, EndSo, Fewer, HasSplit, ResumedSo, HasResumed}
 use Rattle.split_laws.proofs.Whole.{whole_safe, resume_safe}
-use Rattle.call_texts.specs.State.{State, CallEnd, Inserting, Stage, inserting}
+use Rattle.call_texts.specs.State.{State, Caller, caller_of, CallEnd, Inserting, with_forgotten, Stage, inserting}
 use Rattle.call_texts.specs.Text.{part_of, insert_plan, unless_split, starts_again, refuses, after_split, split_job, room, was_full, is_table, plain_full, after_insert}
 use Rattle.call_texts.specs.Bound.{insert_round, insert_acts}
 use Rattle.whole_calls.specs.Fits.{TicketFits}
@@ -169,7 +169,10 @@ module _ (s : Setting) (c tries : ℕ) (pair : Pair) (ip : IsPair pair) (cache :
   call = Insert pair.key pair.value
 
   abbrev part : Stage → Prog (Go Stage CallEnd)
-  part = part_of k h
+  part = part_of
+
+  abbrev who : Caller
+  who = caller_of k h
 
   abbrev Ends : List Change → Entries → CallEnd → Type 0
   Ends b l e = Right s c call k first b l e
@@ -206,12 +209,13 @@ module _ (s : Setting) (c tries : ℕ) (pair : Pair) (ip : IsPair pair) (cache :
 
   -- an end without an answer of the map
   refused : (reply : Reply) (t : ℕ) (forgotten : List ℕ) (area : Area) (ticket : Option Ticket) (d : List Change) (m : Entries) → is_change reply ≡ false → is_quiet reply ≡ false → Cause s c call k (reverse first) (reverse m) reply → Start s.geometry (reverse m) h t → Owns s c area (reverse m) → TicketFits s c ticket (reverse m) → changes_of s m ≡ d
-      → Ends d m (record { reply = reply; source = 0; target = 0; table = Some t; forgotten = forgotten; area = area; ticket = ticket })
+      → Ends d m (record { reply = reply; source = 0; target = 0; hash = h; table = Some t; forgotten = forgotten; split = None; area = area; ticket = ticket })
   refused reply t forgotten area ticket d m x y cause st ow tk same = record {
     changing = λ e. absurd (false_true (sym x ∙ e));
     staying = λ e. same;
     quiet = λ e. absurd (false_true (sym y ∙ e));
     cause = cause;
+    of_key = refl;
     start = λ u e. told (Start s.geometry (reverse m) h) t u e st;
     owns = ow;
     ticket = tk;
@@ -226,12 +230,12 @@ module _ (s : Setting) (c tries : ℕ) (pair : Pair) (ip : IsPair pair) (cache :
   pick_false N b l p q false e g = g
 
   -- A stage from which later ones have fewer ranks.
-  module _ (st : Inserting) (rank : ℕ) (ih : (less : ℕ) (d : List Change) (m : Entries) (st2 : Inserting) → less < rank → From less m st2 → changes_of s m ≡ d → SafeCall (judged s c part) (less * round) d m (part (inserting pair st2)) Ends) (st_few : st.left ≤ tries) where
+  module _ (st : Inserting) (rank : ℕ) (ih : (less : ℕ) (d : List Change) (m : Entries) (st2 : Inserting) → less < rank → From less m st2 → changes_of s m ≡ d → SafeCall (judged s c part) (less * round) d m (part (inserting who pair st2)) Ends) (st_few : st.left ≤ tries) where
     abbrev i : InsertPlan
-    i = insert_plan s.geometry c tries h pair st.left
+    i = insert_plan who pair st.left
 
     abbrev after : InsertEnd → Prog (Go Stage CallEnd)
-    after e = after_insert s.geometry c tries h pair st e e.outcome
+    after e = after_insert who pair st e e.outcome
 
     abbrev end_with : InsertOutcome → Part → InsertEnd
     end_with o p = record { outcome = o; table = p.table; area = p.area; lost = st.left - p.left }
@@ -286,7 +290,7 @@ module _ (s : Setting) (c tries : ℕ) (pair : Pair) (ip : IsPair pair) (cache :
 
       -- another part
       start_from : (y : Entries) (b : List Change) (start : Option ℕ) → MayBegin s pair.key Look (reverse y) start → (kept : Option ℕ) (left : ℕ) (full : Option ℕ) (forgotten : List ℕ) (reach2 : ℕ) → Legal s (reverse y) → Before (reverse m) (reverse y) → Owns s c p.area (reverse y) → KeptBlock s c (packed pair.key pair.value) kept p.area (reverse y) → 1 ≤ left → left ≤ tries → Reached s pair.key (reverse y) reach2
-          → Full s pair.key (reverse y) full → left - 1 + (s.geometry.max_depth - reach2) + unseen full < less → changes_of s y ≡ b → Goes (less * round) b y (starts_again s.geometry c tries h pair None st e start kept left full forgotten)
+          → Full s pair.key (reverse y) full → left - 1 + (s.geometry.max_depth - reach2) + unseen full < less → changes_of s y ≡ b → Goes (less * round) b y (starts_again who pair None st e start kept left full forgotten)
       start_from y b start begin kept left full forgotten reach2 ly bm ow kb some few rc fs count2 same =
           ih less b y (record { start = start; kept = kept; left = left; full = full; forgotten = forgotten; area = p.area; ticket = None }) lr
           (record {
@@ -305,12 +309,12 @@ module _ (s : Setting) (c tries : ℕ) (pair : Pair) (ip : IsPair pair) (cache :
           }) same
 
       start_less : (y : Entries) (b : List Change) (kept : Option ℕ) (left : ℕ) (full : Option ℕ) (forgotten : List ℕ) (reach2 : ℕ) → Legal s (reverse y) → Before (reverse m) (reverse y) → Owns s c p.area (reverse y) → KeptBlock s c (packed pair.key pair.value) kept p.area (reverse y) → 1 ≤ left → left ≤ tries → Reached s pair.key (reverse y) reach2
-          → Full s pair.key (reverse y) full → left - 1 + (s.geometry.max_depth - reach2) + unseen full < less → changes_of s y ≡ b → Goes (less * round) b y (starts_again s.geometry c tries h pair None st e (Some p.table) kept left full forgotten)
+          → Full s pair.key (reverse y) full → left - 1 + (s.geometry.max_depth - reach2) + unseen full < less → changes_of s y ≡ b → Goes (less * round) b y (starts_again who pair None st e (Some p.table) kept left full forgotten)
       start_less y b kept left full forgotten reach2 ly bm ow kb some few rc fs count2 same =
           start_from y b (Some p.table) (start_before s bm ly h p.table x.start) kept left full forgotten reach2 ly bm ow kb some few rc fs count2 same
 
       -- .. after a split of the table u, which the cache has forgotten
-      may_unless : (y : Entries) (u : ℕ) → Start s.geometry (reverse y) h p.table → MayBegin s pair.key Look (reverse y) (unless_split s.geometry c tries h (Some p.table) u)
+      may_unless : (y : Entries) (u : ℕ) → Start s.geometry (reverse y) h p.table → MayBegin s pair.key Look (reverse y) (unless_split (Some p.table) u)
       may_unless y u t = by (p.table == u)
         where
           by : (v : Bool) → MayBegin s pair.key Look (reverse y) (cond v None (Some p.table))
@@ -318,16 +322,16 @@ module _ (s : Setting) (c tries : ℕ) (pair : Pair) (ip : IsPair pair) (cache :
           by false = t
 
       start_split : (y : Entries) (b : List Change) (u : ℕ) (kept : Option ℕ) (left : ℕ) (full : Option ℕ) (forgotten : List ℕ) (reach2 : ℕ) → Legal s (reverse y) → Before (reverse m) (reverse y) → Owns s c p.area (reverse y) → KeptBlock s c (packed pair.key pair.value) kept p.area (reverse y) → 1 ≤ left → left ≤ tries → Reached s pair.key (reverse y) reach2
-          → Full s pair.key (reverse y) full → left - 1 + (s.geometry.max_depth - reach2) + unseen full < less → changes_of s y ≡ b → Goes (less * round) b y (starts_again s.geometry c tries h pair None st e (unless_split s.geometry c tries h (Some p.table) u) kept left full forgotten)
+          → Full s pair.key (reverse y) full → left - 1 + (s.geometry.max_depth - reach2) + unseen full < less → changes_of s y ≡ b → Goes (less * round) b y (starts_again who pair None st e (unless_split (Some p.table) u) kept left full forgotten)
       start_split y b u kept left full forgotten reach2 ly bm ow kb some few rc fs count2 same =
-          start_from y b (unless_split s.geometry c tries h (Some p.table) u) (may_unless y u (start_before s bm ly h p.table x.start)) kept left full forgotten reach2 ly bm ow kb some few rc fs count2 same
+          start_from y b (unless_split (Some p.table) u) (may_unless y u (start_before s bm ly h p.table x.start)) kept left full forgotten reach2 ly bm ow kb some few rc fs count2 same
 
       no_place : (y : Entries) → Before (reverse m) (reverse y) → NoPlace s c call (reverse first) (reverse y)
       no_place y b = record { pair = pair; is = refl; since = from; from_then = x.since; till = reverse m; till_then = b; passed = q; tries = st.left; none = no }
 
       -- the table is full
-      full_answer : (d : List Change) → is_plain_at s.geometry.max_depth q.head ≡ true → st.ticket ≡ None → changes_of s m ≡ d → (v : Bool) → was_full s.geometry c tries h pair st p.table q ≡ v
-          → Goes (less * round) d m (cond v (refuses s.geometry c tries h pair (FullDepth s.geometry.max_depth) None st e) (starts_again s.geometry c tries h pair None st e (Some p.table) p.kept p.left (Some p.table) st.forgotten))
+      full_answer : (d : List Change) → is_plain_at s.geometry.max_depth q.head ≡ true → st.ticket ≡ None → changes_of s m ≡ d → (v : Bool) → was_full who pair st p.table q ≡ v
+          → Goes (less * round) d m (cond v (refuses who pair (FullDepth s.geometry.max_depth) None st e) (starts_again who pair None st e (Some p.table) p.kept p.left (Some p.table) st.forgotten))
       full_answer d full has same true v = refused (FullDepth s.geometry.max_depth) p.table st.forgotten p.area None d m refl refl
           (refl, record { at = w0.at; from_then = Before-trans x.since w0.from_then; till = w0.till; table = p.table; plain = w_head ∙ plain_head s.geometry.max_depth q.head full }, no_place m here)
           x.start x.owns tt same
@@ -336,7 +340,7 @@ module _ (s : Setting) (c tries : ℕ) (pair : Pair) (ip : IsPair pair) (cache :
           plain : key_header s w0.at p.table pair.key ≡ PlainAt s.geometry.max_depth
           plain = w_head ∙ plain_head s.geometry.max_depth q.head full
 
-          by : (o : Option ℕ) → st.full ≡ o → Full s pair.key from o → Goes (less * round) d m (starts_again s.geometry c tries h pair None st e (Some p.table) p.kept p.left (Some p.table) st.forgotten)
+          by : (o : Option ℕ) → st.full ≡ o → Full s pair.key from o → Goes (less * round) d m (starts_again who pair None st e (Some p.table) p.kept p.left (Some p.table) st.forgotten)
           by None o g =
               let one = ap unseen o in
               let zero = ap held has in
@@ -348,8 +352,8 @@ module _ (s : Setting) (c tries : ℕ) (pair : Pair) (ip : IsPair pair) (cache :
               none : (u : ℕ) → p.table ≡ u → st.full ≡ Some u → ⊥
               none u a o = true_false (seen u a ∙ v2 u o)
                 where
-                  same_test : (x y : ℕ) → x ≡ y → true ≡ ((y == x) || plain_full s.geometry c tries h pair q.opened)
-                  same_test x y e = or_true (y == x) (plain_full s.geometry c tries h pair q.opened) (eq x y e)
+                  same_test : (x y : ℕ) → x ≡ y → true ≡ ((y == x) || plain_full who pair q.opened)
+                  same_test x y e = or_true (y == x) (plain_full who pair q.opened) (eq x y e)
                     where
                       eq : (x y : ℕ) → x ≡ y → (y == x) ≡ true
                       eq x y e = grind (arith, nat_tests)
@@ -358,14 +362,14 @@ module _ (s : Setting) (c tries : ℕ) (pair : Pair) (ip : IsPair pair) (cache :
                       or_true true b e = refl
                       or_true false b e = absurd (false_true e)
 
-                  seen : (u : ℕ) → p.table ≡ u → true ≡ ((u == p.table) || plain_full s.geometry c tries h pair q.opened)
+                  seen : (u : ℕ) → p.table ≡ u → true ≡ ((u == p.table) || plain_full who pair q.opened)
                   seen u a = same_test p.table u a
 
-                  v2 : (u : ℕ) → st.full ≡ Some u → ((u == p.table) || plain_full s.geometry c tries h pair q.opened) ≡ false
-                  v2 u o = subst (λ f. (is_table s.geometry c tries h pair f p.table || plain_full s.geometry c tries h pair q.opened) ≡ false) o v
+                  v2 : (u : ℕ) → st.full ≡ Some u → ((u == p.table) || plain_full who pair q.opened) ≡ false
+                  v2 u o = subst (λ f. (is_table who pair f p.table || plain_full who pair q.opened) ≡ false) o v
 
       abbrev job : SplitJob
-      job = split_job s.geometry c tries h p.table q.head.depth
+      job = split_job who p.table q.head.depth
 
       low_suffix : (x n : ℕ) → x % 2 ^ n < 2 ^ n
       low_suffix x n = mod_below x (2 ^ n) (pow_pos n)
@@ -384,14 +388,14 @@ module _ (s : Setting) (c tries : ℕ) (pair : Pair) (ip : IsPair pair) (cache :
 
       -- the split has ended
       split_ends : is_plain_at s.geometry.max_depth q.head ≡ false → st.ticket ≡ None → (y : Entries) (b : List Change) → Legal s (reverse y) → Before (reverse m) (reverse y) → (r : ResizeEnd) (o : ResizeOutcome) → EndSo s c (reverse m) p.table q.head.depth (reverse y) r.left o → Fewer p.left r.left o → Untouched s c (reverse m) (reverse y) → changes_of s y ≡ b
-          → Goes (less * round) b y (after_split s.geometry c tries h pair st e p.kept q.head.depth r.left o)
+          → Goes (less * round) b y (after_split who pair st e p.kept q.head.depth r.left o)
       split_ends nf has y b ly bm r (split.Split u dd) so le un same =
           let zero = ap held has in
           let few = x.few in
           let more = header_deeper s pair.key from p.table w bm ly (split_deeper s pair.key c from (reverse m) (reverse y) p.table w ly bm (subst (λ v. SplitBy s c p.table (v + 1) (reverse y)) (sym w_depth) so.2)) reach x.reached in
           let top = reached_most s (reverse y) ly pair.key (reach + 1) more in
           let some = so.3 in
-          start_split y b u p.kept r.left st.full (u ∷ st.forgotten) (reach + 1) ly bm (un p.area.at p.area.left x.owns).0 (block_untouched s c (packed pair.key pair.value) p.kept p.area (reverse m) (reverse y) un x.keeps) so.3 (omega arith) more
+          start_split y b u p.kept r.left st.full (with_forgotten st.forgotten u) (reach + 1) ly bm (un p.area.at p.area.left x.owns).0 (block_untouched s c (packed pair.key pair.value) p.kept p.area (reverse m) (reverse y) un x.keeps) so.3 (omega arith) more
           (full_on s pair.key (Before-trans x.later_than bm) ly st.full x.seen) (omega arith) same
       split_ends nf has y b ly bm r split.Locked so le un same =
           let zero = ap held has in
@@ -406,7 +410,7 @@ module _ (s : Setting) (c tries : ℕ) (pair : Pair) (ip : IsPair pair) (cache :
           keep : KeptBlock s c (packed pair.key pair.value) p.kept p.area (reverse y)
           keep = block_untouched s c (packed pair.key pair.value) p.kept p.area (reverse m) (reverse y) un x.keeps
 
-          at_top : q.head.depth ≡ s.geometry.max_depth → (o : Option ℕ) → st.full ≡ o → Full s pair.key from o → Goes (less * round) b y (starts_again s.geometry c tries h pair None st e (Some p.table) p.kept r.left (Some p.table) st.forgotten)
+          at_top : q.head.depth ≡ s.geometry.max_depth → (o : Option ℕ) → st.full ≡ o → Full s pair.key from o → Goes (less * round) b y (starts_again who pair None st e (Some p.table) p.kept r.left (Some p.table) st.forgotten)
           at_top t None o g =
               let one = ap unseen o in
               let zero = ap held has in
@@ -419,7 +423,7 @@ module _ (s : Setting) (c tries : ℕ) (pair : Pair) (ip : IsPair pair) (cache :
           low_depth : (x y top : ℕ) → x ≡ y → x ≤ top → (y == top) ≡ false → x < top
           low_depth x y top e k t = grind (arith, nat_tests, t)
 
-          by : (v : Bool) → (q.head.depth == s.geometry.max_depth) ≡ v → Goes (less * round) b y (starts_again s.geometry c tries h pair None st e (Some p.table) p.kept r.left (cond v (Some p.table) st.full) st.forgotten)
+          by : (v : Bool) → (q.head.depth == s.geometry.max_depth) ≡ v → Goes (less * round) b y (starts_again who pair None st e (Some p.table) p.kept r.left (cond v (Some p.table) st.full) st.forgotten)
           by true t = at_top (equal_test q.head.depth s.geometry.max_depth t) st.full refl x.seen
           by false t =
               let zero = ap held has in
@@ -440,12 +444,12 @@ module _ (s : Setting) (c tries : ℕ) (pair : Pair) (ip : IsPair pair) (cache :
 
       -- the split of the ticket has ended
       resume_ends : (tk : Ticket) → st.ticket ≡ Some tk → (y : Entries) (b : List Change) → Legal s (reverse y) → Before (reverse m) (reverse y) → (r : ResizeEnd) (o : ResizeOutcome) → ResumedSo s c tk.site.table tk.site.depth (reverse y) r.left o → r.left ≤ p.left → Untouched s c (reverse m) (reverse y) → changes_of s y ≡ b
-          → Goes (less * round) b y (after_split s.geometry c tries h pair st e p.kept q.head.depth r.left o)
+          → Goes (less * round) b y (after_split who pair st e p.kept q.head.depth r.left o)
       resume_ends tk has y b ly bm r (split.Split u dd) so le un same =
           let one = ap held has in
           let few = x.few in
           let some = so.3 in
-          start_split y b u p.kept r.left st.full (u ∷ st.forgotten) reach ly bm (un p.area.at p.area.left x.owns).0 (block_untouched s c (packed pair.key pair.value) p.kept p.area (reverse m) (reverse y) un x.keeps) so.3 (omega arith) (reached_before s pair.key (Before-trans x.later_than bm) ly reach x.reached)
+          start_split y b u p.kept r.left st.full (with_forgotten st.forgotten u) reach ly bm (un p.area.at p.area.left x.owns).0 (block_untouched s c (packed pair.key pair.value) p.kept p.area (reverse m) (reverse y) un x.keeps) so.3 (omega arith) (reached_before s pair.key (Before-trans x.later_than bm) ly reach x.reached)
           (full_on s pair.key (Before-trans x.later_than bm) ly st.full x.seen) (omega arith) same
       resume_ends tk has y b ly bm r (split.Again (Some ticket)) so le un same =
           refused (Again tries) p.table st.forgotten p.area (Some ticket) b y refl refl refl (start_before s bm ly h p.table x.start) (un p.area.at p.area.left x.owns).0 so.0 same
@@ -463,9 +467,9 @@ module _ (s : Setting) (c tries : ℕ) (pair : Pair) (ip : IsPair pair) (cache :
       acts_more : (n : ℕ) → n ≤ tries → resize_acts s.geometry n ≤ acts
       acts_more n le = omega arith
 
-      room_safe : (d : List Change) → changes_of s m ≡ d → (o : Option Ticket) → st.ticket ≡ o → TicketFits s c o (reverse m) → Goes (acts + less * round) d m (room s.geometry c tries h pair st e q p.kept p.left o)
+      room_safe : (d : List Change) → changes_of s m ≡ d → (o : Option Ticket) → st.ticket ≡ o → TicketFits s c o (reverse m) → Goes (acts + less * round) d m (room who pair st e q p.kept p.left o)
       room_safe d same (Some tk) has ft =
-          quiet_bind s c part (resume tk p.left) (λ r. after_split s.geometry c tries h pair st e p.kept q.head.depth r.left r.outcome) (λ y r. HasResumed s c tk.site.table tk.site.depth p.left (reverse m) y r × Legally y) Ends acts (less * round) d m
+          quiet_bind s c part (resume tk p.left) (λ r. after_split who pair st e p.kept q.head.depth r.left r.outcome) (λ y r. HasResumed s c tk.site.table tk.site.depth p.left (reverse m) y r × Legally y) Ends acts (less * round) d m
           (Within-more (resize_acts tk.geometry p.left) acts (resume tk p.left) (subst (λ (g : _). resize_acts g p.left ≤ acts) (sym ft.geometry) (acts_more p.left x.few)) (resume-within tk p.left)) same
           (by_kept Unchanging s c Legally legally (reverse m) (resume tk p.left) (λ y r. HasResumed s c tk.site.table tk.site.depth p.left (reverse m) y r) (l, here)
           (subst (λ v. SafeBy Unchanging s v (reverse m) (resume tk p.left) (λ y r. HasResumed s v tk.site.table tk.site.depth p.left (reverse m) y r)) ft.client
@@ -473,12 +477,12 @@ module _ (s : Setting) (c tries : ℕ) (pair : Pair) (ip : IsPair pair) (cache :
           (λ y r b g same2. resume_ends tk has y b g.1.0 g.1.1 r r.outcome g.0.so g.0.fewer g.0.untouched same2)
       room_safe d same None has ft = by (is_plain_at s.geometry.max_depth q.head) refl
         where
-          by : (v : Bool) → is_plain_at s.geometry.max_depth q.head ≡ v → Goes (acts + less * round) d m (cond v (cond (was_full s.geometry c tries h pair st p.table q) (refuses s.geometry c tries h pair (FullDepth s.geometry.max_depth) None st e) (starts_again s.geometry c tries h pair None st e (Some p.table) p.kept p.left (Some p.table) st.forgotten))
-              (bind (resize job p.left) (λ r. after_split s.geometry c tries h pair st e p.kept q.head.depth r.left r.outcome)))
-          by true v = goes_more (less * round) (acts + less * round) d m (cond (was_full s.geometry c tries h pair st p.table q) (refuses s.geometry c tries h pair (FullDepth s.geometry.max_depth) None st e) (starts_again s.geometry c tries h pair None st e (Some p.table) p.kept p.left (Some p.table) st.forgotten)) (omega arith)
-              (full_answer d v has same (was_full s.geometry c tries h pair st p.table q) refl)
+          by : (v : Bool) → is_plain_at s.geometry.max_depth q.head ≡ v → Goes (acts + less * round) d m (cond v (cond (was_full who pair st p.table q) (refuses who pair (FullDepth s.geometry.max_depth) None st e) (starts_again who pair None st e (Some p.table) p.kept p.left (Some p.table) st.forgotten))
+              (bind (resize job p.left) (λ r. after_split who pair st e p.kept q.head.depth r.left r.outcome)))
+          by true v = goes_more (less * round) (acts + less * round) d m (cond (was_full who pair st p.table q) (refuses who pair (FullDepth s.geometry.max_depth) None st e) (starts_again who pair None st e (Some p.table) p.kept p.left (Some p.table) st.forgotten)) (omega arith)
+              (full_answer d v has same (was_full who pair st p.table q) refl)
           by false v =
-              quiet_bind s c part (resize job p.left) (λ r. after_split s.geometry c tries h pair st e p.kept q.head.depth r.left r.outcome) (λ y r. HasSplit s c p.table q.head.depth p.left (reverse m) y r × Legally y) Ends acts (less * round) d m
+              quiet_bind s c part (resize job p.left) (λ r. after_split who pair st e p.kept q.head.depth r.left r.outcome) (λ y r. HasSplit s c p.table q.head.depth p.left (reverse m) y r × Legally y) Ends acts (less * round) d m
               (Within-more (resize_acts s.geometry p.left) acts (resize job p.left) (acts_more p.left x.few) (resize-within job p.left s.geometry.few)) same
               (by_kept Unchanging s c Legally legally (reverse m) (resize job p.left) (λ y r. HasSplit s c p.table q.head.depth p.left (reverse m) y r) (l, here) (whole_safe s job (reverse m) l may_split p.left x.some))
               (λ y r b g same2. split_ends v has y b g.1.0 g.1.1 r r.outcome g.0.so g.0.fewer g.0.untouched same2)
@@ -487,7 +491,7 @@ module _ (s : Setting) (c tries : ℕ) (pair : Pair) (ip : IsPair pair) (cache :
     need_safe : (p : Part) (from : Past) (reach : ℕ) (m : Entries) → Then p from reach m → (q : Passed) → NoRoom s i from (reverse m) q → q.table ≡ p.table → (less : ℕ) → less < rank → p.left - 1 + (s.geometry.max_depth - reach) + unseen st.full + held st.ticket < suc less → (d : List Change) → changes_of s m ≡ d
         → Goes (acts + less * round) d m (after (end_with (inserted.NeedRoom q p.kept) p))
     need_safe p from reach m x q nr te less lr count d same =
-        subst (λ v. Goes (acts + less * round) d m (room s.geometry c tries h pair st (end_with (inserted.NeedRoom q p.kept) p) q p.kept v st.ticket)) (back st.left p.left x.low)
+        subst (λ v. Goes (acts + less * round) d m (room who pair st (end_with (inserted.NeedRoom q p.kept) p) q p.kept v st.ticket)) (back st.left p.left x.low)
         (room_safe p from reach m x q nr te less lr count d same st.ticket refl x.ticket_now)
       where
         back : (a b : ℕ) → b ≤ a → b ≡ a - (a - b)
@@ -534,7 +538,7 @@ module _ (s : Setting) (c tries : ℕ) (pair : Pair) (ip : IsPair pair) (cache :
           }) (omega (arith, fewer, fits)) same
 
       -- an answer of the operation that refuses
-      refuses_so : (p : Part) (m : Entries) (d : List Change) → At p m → (reply : Reply) → is_change reply ≡ false → is_quiet reply ≡ false → Cause s c call k (reverse first) (reverse m) reply → changes_of s m ≡ d → Ends d m (record { reply = reply; source = 0; target = 0; table = Some p.table; forgotten = st.forgotten; area = p.area; ticket = st.ticket })
+      refuses_so : (p : Part) (m : Entries) (d : List Change) → At p m → (reply : Reply) → is_change reply ≡ false → is_quiet reply ≡ false → Cause s c call k (reverse first) (reverse m) reply → changes_of s m ≡ d → Ends d m (record { reply = reply; source = 0; target = 0; hash = h; table = Some p.table; forgotten = st.forgotten; split = None; area = p.area; ticket = st.ticket })
       refuses_so p m d a reply x y cause same = refused reply p.table st.forgotten p.area st.ticket d m x y cause a.start a.owns a.ticket_now same
 
       -- The own pending word is committed.
@@ -599,6 +603,7 @@ module _ (s : Setting) (c tries : ℕ) (pair : Pair) (ip : IsPair pair) (cache :
                           staying = λ y. absurd (true_false y);
                           quiet = λ y. absurd (false_true y);
                           cause = tt;
+                          of_key = refl;
                           start = λ u y. told (Start s.geometry (reverse r) h) p.table u y (subst (λ v. Start s.geometry v h p.table) (sym e) (start_before s (later here) lm h p.table az.start));
                           owns = subst (Owns s c p.area) (sym e) (commit_owns s c i pair p.area (reverse m) own at tc (reverse z) lz bz now az.owns);
                           ticket = subst (TicketFits s c st.ticket) (sym e) (ticket_firm s c st.ticket (reverse z) (change_in s.geometry c (reverse z) slot (live_word i at)) lm (mild (ap uses_lock kd)) az.ticket_now);
@@ -618,6 +623,7 @@ module _ (s : Setting) (c tries : ℕ) (pair : Pair) (ip : IsPair pair) (cache :
         staying = λ e. same;
         quiet = λ e. point s call first m (Exists hw.value) so.at (Before-trans x0.since so.from_then) so.till (Some so.pair.value) (held_then s so.till a.legal pair.key p.table so.place so.body so.pair so.holder) (ap (λ v. Some (Exists v)) so.value);
         cause = tt;
+        of_key = refl;
         start = λ u e. told (Start s.geometry (reverse m) h) p.table u e a.start;
         owns = a.owns;
         ticket = a.ticket_now;
@@ -690,7 +696,7 @@ module _ (s : Setting) (c tries : ℕ) (pair : Pair) (ip : IsPair pair) (cache :
     enough_parts : (left reach m f : ℕ) → 1 ≤ left → f ≤ reach → left - 1 + (m - reach) < left + (m - f)
     enough_parts left reach m f one le = omega arith
 
-    stage : (d : List Change) (m : Entries) (x : From rank m st) → s.geometry.first_depth ≤ x.reach → changes_of s m ≡ d → SafeCall (judged s c part) (rank * round) d m (part (inserting pair st)) Ends
+    stage : (d : List Change) (m : Entries) (x : From rank m st) → s.geometry.first_depth ≤ x.reach → changes_of s m ≡ d → SafeCall (judged s c part) (rank * round) d m (part (inserting who pair st)) Ends
     stage d m x deep same =
         let one = x.some in
         subst (λ v. SafeCall (judged s c part) (rank * round) d m v Ends) (begins (parts_of i) (omega arith) st.start st.kept st.area st.left)
@@ -700,7 +706,7 @@ module _ (s : Setting) (c tries : ℕ) (pair : Pair) (ip : IsPair pair) (cache :
         at_most n = omega arith
 
   -- each stage, by its rank
-  stage_safe : (most rank : ℕ) → rank ≤ most → (d : List Change) (m : Entries) (st : Inserting) → From rank m st → changes_of s m ≡ d → SafeCall (judged s c part) (rank * round) d m (part (inserting pair st)) Ends
+  stage_safe : (most rank : ℕ) → rank ≤ most → (d : List Change) (m : Entries) (st : Inserting) → From rank m st → changes_of s m ≡ d → SafeCall (judged s c part) (rank * round) d m (part (inserting who pair st)) Ends
   stage_safe zero rank le d m st x same = absurd (let y = x.count in omega arith)
   stage_safe (suc most) rank le d m st x same =
       ⊎_elim (λ (low : x.reach < s.geometry.first_depth).
@@ -733,7 +739,7 @@ module _ (s : Setting) (c tries : ℕ) (pair : Pair) (ip : IsPair pair) (cache :
   abbrev st0 : Inserting
   st0 = record { start = entry_of cache h; kept = None; left = tries; full = None; forgotten = []; area = area0; ticket = ticket0 }
 
-  none : (less : ℕ) (d : List Change) (m : Entries) (st2 : Inserting) → less < 0 → From less m st2 → changes_of s m ≡ d → SafeCall (judged s c part) (less * round) d m (part (inserting pair st2)) Ends
+  none : (less : ℕ) (d : List Change) (m : Entries) (st2 : Inserting) → less < 0 → From less m st2 → changes_of s m ≡ d → SafeCall (judged s c part) (less * round) d m (part (inserting who pair st2)) Ends
   none less d m st2 lt x same = absurd (omega (arith, lt))
 
   pub insert_call_safe : IsLegal s first → MayCall s c k call first → IsSafeWithin (insert_acts s.geometry tries) s c k call first

@@ -1,4 +1,5 @@
 mod Shared
+mod Caching
 mod Fitting
 mod Inside
 mod Points

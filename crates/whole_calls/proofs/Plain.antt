@@ -53,7 +53,7 @@ use Rattle.op_update.specs.Text.{update}
 use Rattle.op_update.specs.Bound.{update_verbs, update_round}
 use Rattle.op_update.specs.Law.{plan_of, HasUpdated, AnswersSo as UpdatedSo}
 use Rattle.op_update.proofs.Whole.{update_is_safe}
-use Rattle.call_texts.specs.State.{State, CallEnd, Stage}
+use Rattle.call_texts.specs.State.{State, caller_of, CallEnd, Stage}
 use Rattle.call_texts.specs.Text.{after_search, after_delete, after_update, part_of, begin_call}
 use Rattle.call_texts.specs.Bound.{round_most, call_most}
 use Rattle.whole_calls.specs.Fits.{TicketFits}
@@ -67,19 +67,20 @@ module _ (s : Setting) (c tries : ℕ) (cache : Cached) (ticket : Option Ticket)
   k = own_state s c tries cache ticket area
 
   abbrev part : Stage → Prog (Go Stage CallEnd)
-  part = part_of k (hash s key)
+  part = part_of
 
   abbrev job : AreBytes key → IsJobOf s (look_job s.geometry key (hash s key))
   job b = record { geometry = refl; hash = refl; bytes = b }
 
   -- a search has ended
   module _ (first l : Entries) (b : List Change) (same : changes_of s l ≡ b) (lg : Legal s (reverse l)) (bf : Before (reverse first) (reverse l)) (ow : Owns s c area (reverse l)) (tk : TicketFits s c ticket (reverse l)) (t : ℕ) (st : Start s.geometry (reverse l) (hash s key) t) where
-    searched_right : (o : SearchOutcome) → SearchedSo s key (reverse first) (reverse l) t o → SafeCall (judged s c part) 0 b l (goes_on part (after_search s.geometry c tries (hash s key) area ticket t o)) (Right s c (Search key) k first)
+    searched_right : (o : SearchOutcome) → SearchedSo s key (reverse first) (reverse l) t o → SafeCall (judged s c part) 0 b l (goes_on part (after_search (caller_of k (hash s key)) area ticket t o)) (Right s c (Search key) k first)
     searched_right (searched.Found h) x = record {
       changing = λ e. absurd (false_true e);
       staying = λ e. same;
       quiet = λ e. point s (Search key) first l (Found h.value) x.at x.from_then x.till (Some x.pair.value) (held_then s x.till lg key t x.place x.body x.pair x.holder) (ap (λ v. Some (Found v)) x.value);
       cause = tt;
+      of_key = refl;
       start = λ u e. told (Start s.geometry (reverse l) (hash s key)) t u e st;
       owns = ow;
       ticket = tk;
@@ -91,6 +92,7 @@ module _ (s : Setting) (c tries : ℕ) (cache : Cached) (ticket : Option Ticket)
           staying = λ e. same;
           quiet = λ e. point s (Search key) first l Missing y.at y.from_then y.till None y.lacks refl;
           cause = tt;
+          of_key = refl;
           start = λ u e. told (Start s.geometry (reverse l) (hash s key)) t u e st;
           owns = ow;
           ticket = tk;
@@ -102,7 +104,7 @@ module _ (s : Setting) (c tries : ℕ) (cache : Cached) (ticket : Option Ticket)
   search_call_safe : (l : Entries) → IsLegal s l → MayCall s c k (Search key) l → IsSafeWithin (most_verbs s.geometry.max_depth) s c k (Search key) l
   search_call_safe l lg m =
       SafeCall-more (judged s c part) (Right s c (Search key) k l) (pass_verbs (look_job s.geometry key (hash s key)) + 0) (most_verbs s.geometry.max_depth) (changes_of s l) l (goes_on part (begin_call k (hash s key) (Search key))) (few (most_verbs s.geometry.max_depth))
-      (call_bind s c part (search (look_job s.geometry key (hash s key)) (entry_of cache (hash s key))) (λ e. after_search s.geometry c tries (hash s key) area ticket e.table e.outcome) (λ y e. HasSearched s key (reverse l) y e × Kept (reverse l) y) (Right s c (Search key) k l)
+      (call_bind s c part (search (look_job s.geometry key (hash s key)) (entry_of cache (hash s key))) (λ e. after_search (caller_of k (hash s key)) area ticket e.table e.outcome) (λ y e. HasSearched s key (reverse l) y e × Kept (reverse l) y) (Right s c (Search key) k l)
       (pass_verbs (look_job s.geometry key (hash s key))) 0 (changes_of s l) l (within_as_search (look_job s.geometry key (hash s key)) (entry_of cache (hash s key)) (search (look_job s.geometry key (hash s key)) (entry_of cache (hash s key))) refl) refl
       (by_weaker (Drops Look) s c Calmly (λ x e d. drop_calmly s c Look x e d) (reverse l) (search (look_job s.geometry key (hash s key)) (entry_of cache (hash s key))) (λ y e. HasSearched s key (reverse l) y e × Kept (reverse l) y) (λ y e. HasSearched s key (reverse l) y e × Kept (reverse l) y) (λ n a x. x)
       (by_kept (Drops Look) s c (Kept (reverse l)) (look_holds s c (Kept (reverse l)) (λ y e ly o h. (going_firm s c ticket (reverse l) y e ly (other o) h.0, mine_others s y e ly c area.at area.left o h.1)))
@@ -115,7 +117,7 @@ module _ (s : Setting) (c tries : ℕ) (cache : Cached) (ticket : Option Ticket)
 
   -- a delete has ended
   module _ (first l : Entries) (b : List Change) (lg : Legal s (reverse l)) (bf : Before (reverse first) (reverse l)) (ow : Owns s c area (reverse l)) (tk : TicketFits s c ticket (reverse l)) (t lost : ℕ) (st : Start s.geometry (reverse l) (hash s key) t) where
-    deleted_right : (o : DeleteOutcome) → DeletedSo s c key tries (reverse first) b (reverse l) o lost → SafeCall (judged s c part) 0 b l (goes_on part (after_delete s.geometry c tries (hash s key) area ticket t o)) (Right s c (Delete key) k first)
+    deleted_right : (o : DeleteOutcome) → DeletedSo s c key tries (reverse first) b (reverse l) o lost → SafeCall (judged s c part) 0 b l (goes_on part (after_delete (caller_of k (hash s key)) area ticket t o)) (Right s c (Delete key) k first)
     deleted_right (deleted.Deleted h) x =
         let r = x.0 in
         let lp = (subst (Legal s) r.last lg).0 in
@@ -134,6 +136,7 @@ module _ (s : Setting) (c tries : ℕ) (cache : Cached) (ticket : Option Ticket)
           staying = λ e. absurd (true_false e);
           quiet = λ e. absurd (false_true e);
           cause = tt;
+          of_key = refl;
           start = λ u e. told (Start s.geometry (reverse l) (hash s key)) t u e st;
           owns = ow;
           ticket = tk;
@@ -145,6 +148,7 @@ module _ (s : Setting) (c tries : ℕ) (cache : Cached) (ticket : Option Ticket)
           staying = λ e. x.1;
           quiet = λ e. point s (Delete key) first l Missing y.at y.from_then y.till None y.lacks refl;
           cause = tt;
+          of_key = refl;
           start = λ u e. told (Start s.geometry (reverse l) (hash s key)) t u e st;
           owns = ow;
           ticket = tk;
@@ -154,6 +158,7 @@ module _ (s : Setting) (c tries : ℕ) (cache : Cached) (ticket : Option Ticket)
       staying = λ e. x.0;
       quiet = λ e. absurd (false_true e);
       cause = refl;
+      of_key = refl;
       start = λ u e. told (Start s.geometry (reverse l) (hash s key)) t u e st;
       owns = ow;
       ticket = tk;
@@ -162,7 +167,7 @@ module _ (s : Setting) (c tries : ℕ) (cache : Cached) (ticket : Option Ticket)
   delete_call_safe : (l : Entries) → IsLegal s l → MayCall s c k (Delete key) l → IsSafeWithin (call_most s.geometry tries) s c k (Delete key) l
   delete_call_safe l lg m =
       SafeCall-more (judged s c part) (Right s c (Delete key) k l) (delete_verbs s.geometry.max_depth tries + 0) (call_most s.geometry tries) (changes_of s l) l (goes_on part (begin_call k (hash s key) (Delete key))) few
-      (op_inside s c part (λ e. after_delete s.geometry c tries (hash s key) area ticket e.table e.outcome) (λ b y e. HasDeleted s c key tries (reverse l) b (reverse y) e) (Right s c (Delete key) k l) (Going s c ticket (reverse l)) (going_firm s c ticket (reverse l))
+      (op_inside s c part (λ e. after_delete (caller_of k (hash s key)) area ticket e.table e.outcome) (λ b y e. HasDeleted s c key tries (reverse l) b (reverse y) e) (Right s c (Delete key) k l) (Going s c ticket (reverse l)) (going_firm s c ticket (reverse l))
       (delete_verbs s.geometry.max_depth tries) 0 (changes_of s l) l (delete (look_job s.geometry key (hash s key)) tries (entry_of cache (hash s key))) (lg, (here, m.fits.ticket))
       (delete_is_safe s.geometry key (hash s key) tries m.some (entry_of cache (hash s key)) s c l lg (job m.is_call) (may_look s c k key (hash s key) (reverse l) (λ t e. m.fits.starts (hash s key) t e)))
       (λ b y e x g. deleted_right l y b g.0 g.1.0 (x.keeps area.at area.left m.fits.owns) g.1.1 e.table e.lost x.start e.outcome x.so))
@@ -178,11 +183,11 @@ module _ (s : Setting) (c tries : ℕ) (cache : Cached) (ticket : Option Ticket)
   ku = own_state s c tries cache ticket area0
 
   abbrev partu : Stage → Prog (Go Stage CallEnd)
-  partu = part_of ku (hash s key)
+  partu = part_of
 
   -- an update has ended
   module _ (first l : Entries) (b : List Change) (lg : Legal s (reverse l)) (bf : Before (reverse first) (reverse l)) (tk : TicketFits s c ticket (reverse l)) (e : UpdateEnd) (ow : Owns s c e.area (reverse l)) (st : Start s.geometry (reverse l) (hash s key) e.table) where
-    updated_right : (o : UpdateOutcome) → UpdatedSo s c pair tries (reverse first) b (reverse l) o e.lost → SafeCall (judged s c partu) 0 b l (goes_on partu (after_update s.geometry c tries (hash s key) ticket e o)) (Right s c (Update key value) ku first)
+    updated_right : (o : UpdateOutcome) → UpdatedSo s c pair tries (reverse first) b (reverse l) o e.lost → SafeCall (judged s c partu) 0 b l (goes_on partu (after_update (caller_of ku (hash s key)) ticket e o)) (Right s c (Update key value) ku first)
     updated_right (updated.Updated h at) x =
         let r = x.0 in
         let lp = (subst (Legal s) r.last lg).0 in
@@ -201,6 +206,7 @@ module _ (s : Setting) (c tries : ℕ) (cache : Cached) (ticket : Option Ticket)
           staying = λ y. absurd (true_false y);
           quiet = λ y. absurd (false_true y);
           cause = tt;
+          of_key = refl;
           start = λ u y. told (Start s.geometry (reverse l) (hash s key)) e.table u y st;
           owns = ow;
           ticket = tk;
@@ -212,6 +218,7 @@ module _ (s : Setting) (c tries : ℕ) (cache : Cached) (ticket : Option Ticket)
           staying = λ _. x.1;
           quiet = λ _. point s (Update key value) first l Missing y.at y.from_then y.till None y.lacks refl;
           cause = tt;
+          of_key = refl;
           start = λ u z. told (Start s.geometry (reverse l) (hash s key)) e.table u z st;
           owns = ow;
           ticket = tk;
@@ -221,6 +228,7 @@ module _ (s : Setting) (c tries : ℕ) (cache : Cached) (ticket : Option Ticket)
       staying = λ _. x.0;
       quiet = λ y. absurd (false_true y);
       cause = refl;
+      of_key = refl;
       start = λ u y. told (Start s.geometry (reverse l) (hash s key)) e.table u y st;
       owns = ow;
       ticket = tk;
@@ -230,6 +238,7 @@ module _ (s : Setting) (c tries : ℕ) (cache : Cached) (ticket : Option Ticket)
       staying = λ _. x.1;
       quiet = λ y. absurd (false_true y);
       cause = (x.0.need, x.0.count, x.0.full);
+      of_key = refl;
       start = λ u y. told (Start s.geometry (reverse l) (hash s key)) e.table u y st;
       owns = ow;
       ticket = tk;
@@ -238,7 +247,7 @@ module _ (s : Setting) (c tries : ℕ) (cache : Cached) (ticket : Option Ticket)
   update_call_safe : (l : Entries) → IsLegal s l → MayCall s c ku (Update key value) l → IsSafeWithin (call_most s.geometry tries) s c ku (Update key value) l
   update_call_safe l lg m =
       SafeCall-more (judged s c partu) (Right s c (Update key value) ku l) (update_verbs (plan_of s.geometry c pair (hash s key) tries) + 0) (call_most s.geometry tries) (changes_of s l) l (goes_on partu (begin_call ku (hash s key) (Update key value))) few
-      (op_inside s c partu (λ e. after_update s.geometry c tries (hash s key) ticket e e.outcome) (λ b y e. HasUpdated s c pair tries (reverse l) b (reverse y) e) (Right s c (Update key value) ku l) (Going s c ticket (reverse l)) (going_firm s c ticket (reverse l))
+      (op_inside s c partu (λ e. after_update (caller_of ku (hash s key)) ticket e e.outcome) (λ b y e. HasUpdated s c pair tries (reverse l) b (reverse y) e) (Right s c (Update key value) ku l) (Going s c ticket (reverse l)) (going_firm s c ticket (reverse l))
       (update_verbs (plan_of s.geometry c pair (hash s key) tries)) 0 (changes_of s l) l (update (plan_of s.geometry c pair (hash s key) tries) area0 (entry_of cache (hash s key))) (lg, (here, m.fits.ticket))
       (update_is_safe s.geometry c pair m.is_call (hash s key) tries m.some area0 (entry_of cache (hash s key)) s c l lg (record { geometry = refl; hash = refl; bytes = m.is_call.key_bytes }) (may_look s c ku key (hash s key) (reverse l) (λ t e. m.fits.starts (hash s key) t e)) m.fits.owns)
       (λ b y e x g. updated_right l y b g.0 g.1.0 g.1.1 e x.owns x.start e.outcome x.so))

@@ -60,8 +60,8 @@ use Rattle.begin_laws.specs.Law.{MaySplit}
 use Rattle.split_laws.specs.Ticket.{Fits}
 use Rattle.split_laws.specs.Law.{SplitBy, EndSo, Fewer, HasSplit, ResumedSo, HasResumed}
 use Rattle.split_laws.proofs.Whole.{whole_safe, resume_safe}
-use Rattle.call_texts.specs.State.{State, CallEnd, Stage, walking}
-use Rattle.call_texts.specs.Text.{part_of, split_job, walk_job, unless_split, after_own, after_walk, walk_part, resize_call}
+use Rattle.call_texts.specs.State.{State, Caller, caller_of, CallEnd, Stage, walking}
+use Rattle.call_texts.specs.Text.{part_of, split_job, walk_job, after_own, after_walk, walk_part, resize_call}
 use Rattle.call_texts.specs.Bound.{resize_round, resize_most}
 use Rattle.whole_calls.specs.Fits.{TicketFits}
 use Rattle.whole_calls.specs.Right.{Right, Cause}
@@ -82,7 +82,10 @@ module _ (s : Setting) (c tries : ℕ) (key : List ℕ) (bytes : AreBytes key) (
   h = hash s key
 
   abbrev part : Stage → Prog (Go Stage CallEnd)
-  part = part_of k h
+  part = part_of
+
+  abbrev who : Caller
+  who = caller_of k h
 
   abbrev Ends : List Change → Entries → CallEnd → Type 0
   Ends b l e = Right s c (Resize key) k first b l e
@@ -96,13 +99,14 @@ module _ (s : Setting) (c tries : ℕ) (key : List ℕ) (bytes : AreBytes key) (
   abbrev round : ℕ
   round = resize_round s.geometry tries
 
-  answered : (reply : Reply) (t : Option ℕ) (forgotten : List ℕ) (ticket : Option Ticket) (d : List Change) (m : Entries) → is_change reply ≡ false → is_quiet reply ≡ false → Cause s c (Resize key) k (reverse first) (reverse m) reply → ((u : ℕ) → t ≡ Some u → Start s.geometry (reverse m) h u) → Owns s c area (reverse m) → TicketFits s c ticket (reverse m) → changes_of s m ≡ d
-      → Ends d m (record { reply = reply; source = 0; target = 0; table = t; forgotten = forgotten; area = area; ticket = ticket })
-  answered reply t forgotten ticket d m x y cause st ow tk same = record {
+  answered : (split : Option ℕ) (reply : Reply) (t : Option ℕ) (ticket : Option Ticket) (d : List Change) (m : Entries) → is_change reply ≡ false → is_quiet reply ≡ false → Cause s c (Resize key) k (reverse first) (reverse m) reply → ((u : ℕ) → t ≡ Some u → Start s.geometry (reverse m) h u) → Owns s c area (reverse m) → TicketFits s c ticket (reverse m) → changes_of s m ≡ d
+      → Ends d m (record { reply = reply; source = 0; target = 0; hash = h; table = t; forgotten = []; split = split; area = area; ticket = ticket })
+  answered split reply t ticket d m x y cause st ow tk same = record {
     changing = λ e. absurd (false_true (sym x ∙ e));
     staying = λ e. same;
     quiet = λ e. absurd (false_true (sym y ∙ e));
     cause = cause;
+    of_key = refl;
     start = st;
     owns = ow;
     ticket = tk;
@@ -110,30 +114,22 @@ module _ (s : Setting) (c tries : ℕ) (key : List ℕ) (bytes : AreBytes key) (
 
   -- a split that is done, of this table at this depth
   split_done : (t : Option ℕ) (v d u e : ℕ) (b : List Change) (y : Entries) → u ≡ v → e ≡ d + 1 → SplitBy s c v (d + 1) (reverse y) → ((w : ℕ) → t ≡ Some w → Start s.geometry (reverse y) h w) → Owns s c area (reverse y) → changes_of s y ≡ b
-      → Ends b y (record { reply = Split u e; source = 0; target = 0; table = unless_split s.geometry c tries h t u; forgotten = u ∷ []; area = area; ticket = None })
+      → Ends b y (record { reply = Split u e; source = 0; target = 0; hash = h; table = t; forgotten = []; split = Some u; area = area; ticket = None })
   split_done t v d u e b y eu ee sb st ow same =
-      answered (Split u e) (unless_split s.geometry c tries h t u) (u ∷ []) None b y refl refl (subst (λ x. SplitBy s c x e (reverse y)) (sym eu) (subst (λ x. SplitBy s c v x (reverse y)) (sym ee) sb)) (λ w q. st w (named t w q)) ow tt same
-    where
-      named : (t : Option ℕ) (w : ℕ) → unless_split s.geometry c tries h t u ≡ Some w → t ≡ Some w
-      named None w q = q
-      named (Some x) w q = by (x == u) q
-        where
-          by : (v : Bool) → cond v None (Some x) ≡ Some w → Some x ≡ Some w
-          by true q = absurd (cc)
-          by false q = q
+      answered (Some u) (Split u e) t None b y refl refl (subst (λ x. SplitBy s c x e (reverse y)) (sym eu) (subst (λ x. SplitBy s c v x (reverse y)) (sym ee) sb)) st ow tt same
 
   -- the split of a ticket has ended
-  resume_ends : (tk : Ticket) (y : Entries) (b : List Change) → Owns s c area (reverse y) → (r : ResizeEnd) (o : ResizeOutcome) → ResumedSo s c tk.site.table tk.site.depth (reverse y) r.left o → changes_of s y ≡ b → Goes 0 b y (after_own s.geometry c tries h key area None r.left o)
+  resume_ends : (tk : Ticket) (y : Entries) (b : List Change) → Owns s c area (reverse y) → (r : ResizeEnd) (o : ResizeOutcome) → ResumedSo s c tk.site.table tk.site.depth (reverse y) r.left o → changes_of s y ≡ b → Goes 0 b y (after_own who key area None r.left o)
   resume_ends tk y b ow r (split.Split u d) so same = split_done None tk.site.table tk.site.depth u d b y so.0 so.1 so.2 (λ w q. absurd (cc)) ow same
-  resume_ends tk y b ow r (split.Again (Some ticket)) so same = answered (Again tries) None [] (Some ticket) b y refl refl refl (λ w q. absurd (cc)) ow so.0 same
+  resume_ends tk y b ow r (split.Again (Some ticket)) so same = answered None (Again tries) None (Some ticket) b y refl refl refl (λ w q. absurd (cc)) ow so.0 same
   resume_ends tk y b ow r split.Changed so same = absurd so
   resume_ends tk y b ow r split.Locked so same = absurd so
   resume_ends tk y b ow r (split.Again None) so same = absurd so
   resume_ends tk y b ow r (split.FullWords next need) so same = absurd so
 
-  resume_call_safe : (tk : Ticket) → Legal s (reverse first) → Owns s c area (reverse first) → Fits s c tk (reverse first) → 1 ≤ tries → Goes (acts + 0) (changes_of s first) first (bind (resume tk tries) (λ r. after_own s.geometry c tries h key area None r.left r.outcome))
+  resume_call_safe : (tk : Ticket) → Legal s (reverse first) → Owns s c area (reverse first) → Fits s c tk (reverse first) → 1 ≤ tries → Goes (acts + 0) (changes_of s first) first (bind (resume tk tries) (λ r. after_own who key area None r.left r.outcome))
   resume_call_safe tk l ow ft some =
-      quiet_bind s c part (resume tk tries) (λ r. after_own s.geometry c tries h key area None r.left r.outcome) (λ y r. HasResumed s c tk.site.table tk.site.depth tries (reverse first) y r) Ends acts 0 (changes_of s first) first
+      quiet_bind s c part (resume tk tries) (λ r. after_own who key area None r.left r.outcome) (λ y r. HasResumed s c tk.site.table tk.site.depth tries (reverse first) y r) Ends acts 0 (changes_of s first) first
       (Within-more (resize_acts tk.geometry tries) acts (resume tk tries) (subst (λ (g : _). resize_acts g tries ≤ acts) (sym ft.geometry) (at_most acts)) (resume-within tk tries)) refl
       (subst (λ v. SafeBy Unchanging s v (reverse first) (resume tk tries) (λ y r. HasResumed s v tk.site.table tk.site.depth tries (reverse first) y r)) ft.client
       (resume_safe s tk (reverse first) l (subst (λ v. Fits s v tk (reverse first)) (sym ft.client) ft) tries some))
@@ -157,12 +153,12 @@ module _ (s : Setting) (c tries : ℕ) (key : List ℕ) (bytes : AreBytes key) (
     count : left - 1 + (s.geometry.max_depth - reach) + unseen full < rank
 
   abbrev walk_from : Option ℕ → ℕ → Prog (Go Stage CallEnd)
-  walk_from start left = walk_part s.geometry c tries h key area start left
+  walk_from start left = walk_part who key area start left
 
-  module _ (less : ℕ) (l0 : Entries) (start0 : Option ℕ) (left0 : ℕ) (x : Now (suc less) l0 start0 left0) (ih : (d : List Change) (m : Entries) (start : Option ℕ) (left : ℕ) → Now less m start left → changes_of s m ≡ d → SafeCall (judged s c part) (less * round) d m (part (walking key start left)) Ends) where
+  module _ (less : ℕ) (l0 : Entries) (start0 : Option ℕ) (left0 : ℕ) (x : Now (suc less) l0 start0 left0) (ih : (d : List Change) (m : Entries) (start : Option ℕ) (left : ℕ) → Now less m start left → changes_of s m ≡ d → SafeCall (judged s c part) (less * round) d m (part (walking who key start left area)) Ends) where
     module _ (p : Passed) (m : Entries) (l : Legal s (reverse m)) (bm : Before (reverse l0) (reverse m)) (st : Start s.geometry (reverse m) h p.table) (ow : Owns s c area (reverse m)) (w : StayedAt s key (reverse l0) (reverse m) p) where
       abbrev job : SplitJob
-      job = split_job s.geometry c tries h p.table p.head.depth
+      job = split_job who p.table p.head.depth
 
       may_split : MaySplit s (reverse m) job
       may_split =
@@ -170,27 +166,27 @@ module _ (s : Setting) (c tries : ℕ) (key : List ℕ) (bytes : AreBytes key) (
           record { geometry = refl; table = a.0; suffix = a.1 ∙ ap (λ v. h % 2 ^ v) (head_depth p.head); low = mod_below h (2 ^ p.head.depth) (pow_pos p.head.depth) }
 
       start_less : (y : Entries) (b : List Change) (left reach : ℕ) (full : Option ℕ) → Legal s (reverse y) → Before (reverse m) (reverse y) → Owns s c area (reverse y) → 1 ≤ left → left ≤ tries → Reached s key (reverse y) reach → Full s key (reverse y) full → left - 1 + (s.geometry.max_depth - reach) + unseen full < less → changes_of s y ≡ b
-          → SafeCall (judged s c part) (less * round) b y (part (walking key (Some p.table) left)) Ends
+          → SafeCall (judged s c part) (less * round) b y (part (walking who key (Some p.table) left area)) Ends
       start_less y b left reach full ly by2 owy some few rc fs count same =
           ih b y (Some p.table) left (record { legal = ly; since = Before-trans x.since (Before-trans bm by2); begin = start_before s by2 ly h p.table st; owns = owy; some = some; few = few; reach = reach; reached = rc; full = full; seen = fs; count = count }) same
 
       own_ends : is_plain_at s.geometry.max_depth p.head ≡ false → (y : Entries) (b : List Change) → Legal s (reverse y) → Before (reverse m) (reverse y) → Owns s c area (reverse y) → (r : ResizeEnd) (o : ResizeOutcome) → EndSo s c (reverse m) p.table p.head.depth (reverse y) r.left o → Fewer left0 r.left o → changes_of s y ≡ b
-          → Goes (less * round) b y (after_own s.geometry c tries h key area (Some p.table) r.left o)
+          → Goes (less * round) b y (after_own who key area (Some p.table) r.left o)
       own_ends nf y b ly by2 owy r (split.Split u d) so le same = split_done (Some p.table) p.table p.head.depth u d b y so.0 so.1 so.2 (λ w2 q. told (Start s.geometry (reverse y) h) p.table w2 q (start_before s by2 ly h p.table st)) owy same
       own_ends nf y b ly by2 owy r split.Locked so le same =
           let few = x.few in
           let count = x.count in
           let some = so.1 in
           start_less y b r.left x.reach x.full ly by2 owy so.1 (omega arith) (reached_before s key (Before-trans bm by2) ly x.reach x.reached) (full_on s key (Before-trans bm by2) ly x.full x.seen) (omega arith) same
-      own_ends nf y b ly by2 owy r (split.Again None) so le same = answered (Again tries) (Some p.table) [] None b y refl refl refl (λ w2 q. told (Start s.geometry (reverse y) h) p.table w2 q (start_before s by2 ly h p.table st)) owy tt same
-      own_ends nf y b ly by2 owy r (split.Again (Some ticket)) so le same = answered (Again tries) (Some p.table) [] (Some ticket) b y refl refl refl (λ w2 q. told (Start s.geometry (reverse y) h) p.table w2 q (start_before s by2 ly h p.table st)) owy so.0 same
+      own_ends nf y b ly by2 owy r (split.Again None) so le same = answered None (Again tries) (Some p.table) None b y refl refl refl (λ w2 q. told (Start s.geometry (reverse y) h) p.table w2 q (start_before s by2 ly h p.table st)) owy tt same
+      own_ends nf y b ly by2 owy r (split.Again (Some ticket)) so le same = answered None (Again tries) (Some p.table) (Some ticket) b y refl refl refl (λ w2 q. told (Start s.geometry (reverse y) h) p.table w2 q (start_before s by2 ly h p.table st)) owy so.0 same
       own_ends nf y b ly by2 owy r (split.FullWords next need) so le same =
-          answered (FullWords next need) (Some p.table) [] None b y refl refl
+          answered None (FullWords next need) (Some p.table) None b y refl refl
           (so.0, so.1, (λ n low. let z = so.2 n low in record { at = z.at; from_then = Before-trans (Before-trans x.since bm) z.from_then; till = z.till; read = z.read; past = z.past }), tt)
           (λ w2 q. told (Start s.geometry (reverse y) h) p.table w2 q (start_before s by2 ly h p.table st)) owy tt same
       own_ends nf y b ly by2 owy r split.Changed so le same = by (p.head.depth == s.geometry.max_depth) refl
         where
-          at_top : p.head.depth ≡ s.geometry.max_depth → (o : Option ℕ) → x.full ≡ o → Full s key (reverse l0) o → SafeCall (judged s c part) (less * round) b y (part (walking key (Some p.table) r.left)) Ends
+          at_top : p.head.depth ≡ s.geometry.max_depth → (o : Option ℕ) → x.full ≡ o → Full s key (reverse l0) o → SafeCall (judged s c part) (less * round) b y (part (walking who key (Some p.table) r.left area)) Ends
           at_top t None o g =
               let one = ap unseen o in
               let few = x.few in
@@ -202,7 +198,7 @@ module _ (s : Setting) (c tries : ℕ) (key : List ℕ) (bytes : AreBytes key) (
           low_depth : (a top : ℕ) → a ≤ top → (a == top) ≡ false → a < top
           low_depth a top e t = grind (arith, nat_tests, t)
 
-          by : (v : Bool) → (p.head.depth == s.geometry.max_depth) ≡ v → SafeCall (judged s c part) (less * round) b y (part (walking key (Some p.table) r.left)) Ends
+          by : (v : Bool) → (p.head.depth == s.geometry.max_depth) ≡ v → SafeCall (judged s c part) (less * round) b y (part (walking who key (Some p.table) r.left area)) Ends
           by true t = at_top (equal_test p.head.depth s.geometry.max_depth t) x.full refl x.seen
           by false t =
               let few = x.few in
@@ -218,18 +214,18 @@ module _ (s : Setting) (c tries : ℕ) (key : List ℕ) (bytes : AreBytes key) (
       legally : Holds Unchanging s c Legally
       legally = record { others = λ y en le o g. (le, later g.1); own = λ y en le r g. (le, later g.1) }
 
-      walked_safe : (d : List Change) → changes_of s m ≡ d → Goes (acts + less * round) d m (after_walk s.geometry c tries h key area left0 p)
+      walked_safe : (d : List Change) → changes_of s m ≡ d → Goes (acts + less * round) d m (after_walk who key area left0 p)
       walked_safe d same = by (is_plain_at s.geometry.max_depth p.head) refl
         where
           acts_more : (n : ℕ) → n ≤ tries → resize_acts s.geometry n ≤ acts
           acts_more n le = omega arith
 
-          by : (v : Bool) → is_plain_at s.geometry.max_depth p.head ≡ v → Goes (acts + less * round) d m (cond v (ret (done (record { reply = FullDepth s.geometry.max_depth; source = 0; target = 0; table = Some p.table; forgotten = []; area = area; ticket = None }))) (bind (resize job left0) (λ r. after_own s.geometry c tries h key area (Some p.table) r.left r.outcome)))
-          by true v = answered (FullDepth s.geometry.max_depth) (Some p.table) [] None d m refl refl
+          by : (v : Bool) → is_plain_at s.geometry.max_depth p.head ≡ v → Goes (acts + less * round) d m (cond v (ret (done (record { reply = FullDepth s.geometry.max_depth; source = 0; target = 0; hash = h; table = Some p.table; forgotten = []; split = None; area = area; ticket = None }))) (bind (resize job left0) (λ r. after_own who key area (Some p.table) r.left r.outcome)))
+          by true v = answered None (FullDepth s.geometry.max_depth) (Some p.table) None d m refl refl
               (refl, record { at = w.at; from_then = Before-trans x.since w.from_then; till = w.till; table = p.table; plain = w.head ∙ plain_head s.geometry.max_depth p.head v }, tt)
               (λ w2 q. told (Start s.geometry (reverse m) h) p.table w2 q st) ow tt same
           by false v =
-              quiet_bind s c part (resize job left0) (λ r. after_own s.geometry c tries h key area (Some p.table) r.left r.outcome) (λ y r. HasSplit s c p.table p.head.depth left0 (reverse m) y r × Legally y) Ends acts (less * round) d m
+              quiet_bind s c part (resize job left0) (λ r. after_own who key area (Some p.table) r.left r.outcome) (λ y r. HasSplit s c p.table p.head.depth left0 (reverse m) y r × Legally y) Ends acts (less * round) d m
               (Within-more (resize_acts s.geometry left0) acts (resize job left0) (acts_more left0 x.few) (resize-within job left0 s.geometry.few)) same
               (by_kept Unchanging s c Legally legally (reverse m) (resize job left0) (λ y r. HasSplit s c p.table p.head.depth left0 (reverse m) y r) (l, here) (whole_safe s job (reverse m) l may_split left0 x.some))
               (λ y r b g same2. own_ends v y b g.1.0 g.1.1 (g.0.untouched area.at area.left ow).0 r r.outcome g.0.so g.0.fewer same2)
@@ -245,12 +241,12 @@ module _ (s : Setting) (c tries : ℕ) (key : List ℕ) (bytes : AreBytes key) (
 
     round_safe : (d : List Change) → changes_of s l0 ≡ d → Goes (suc less * round) d l0 (walk_from start0 left0)
     round_safe d same =
-        SafeCall-more (judged s c part) Ends (pass_verbs (walk_job s.geometry c tries h key) + (acts + less * round)) (suc less * round) d l0 (goes_on part (walk_from start0 left0)) (enough (most_verbs s.geometry.max_depth) less)
-        (quiet_bind s c part (pass (walk_job s.geometry c tries h key) start0) (after_walk s.geometry c tries h key area left0) (λ y p. HasPassed s key Walk (reverse l0) y p × Kept y) Ends (pass_verbs (walk_job s.geometry c tries h key)) (acts + less * round) d l0
-        (pass-within (walk_job s.geometry c tries h key) start0 s.geometry.deep) same
-        (by_weaker (Drops Walk) s c Unchanging (λ y en r. absurd r) (reverse l0) (pass (walk_job s.geometry c tries h key) start0) (λ y p. HasPassed s key Walk (reverse l0) y p × Kept y) (λ y p. HasPassed s key Walk (reverse l0) y p × Kept y) (λ n a z. z)
-        (by_kept (Drops Walk) s c Kept (record { others = λ y en le o g. (le, (later g.1.0, mine_others s y en le c area.at area.left o g.1.1)); own = λ y en le r g. absurd r }) (reverse l0) (pass (walk_job s.geometry c tries h key) start0) (λ y p. HasPassed s key Walk (reverse l0) y p)
-        (x.legal, (here, x.owns)) (pass_safe s c (walk_job s.geometry c tries h key) (record { geometry = refl; hash = refl; bytes = bytes }) start0 (reverse l0) x.legal x.begin)))
+        SafeCall-more (judged s c part) Ends (pass_verbs (walk_job who key) + (acts + less * round)) (suc less * round) d l0 (goes_on part (walk_from start0 left0)) (enough (most_verbs s.geometry.max_depth) less)
+        (quiet_bind s c part (pass (walk_job who key) start0) (after_walk who key area left0) (λ y p. HasPassed s key Walk (reverse l0) y p × Kept y) Ends (pass_verbs (walk_job who key)) (acts + less * round) d l0
+        (pass-within (walk_job who key) start0 s.geometry.deep) same
+        (by_weaker (Drops Walk) s c Unchanging (λ y en r. absurd r) (reverse l0) (pass (walk_job who key) start0) (λ y p. HasPassed s key Walk (reverse l0) y p × Kept y) (λ y p. HasPassed s key Walk (reverse l0) y p × Kept y) (λ n a z. z)
+        (by_kept (Drops Walk) s c Kept (record { others = λ y en le o g. (le, (later g.1.0, mine_others s y en le c area.at area.left o g.1.1)); own = λ y en le r g. absurd r }) (reverse l0) (pass (walk_job who key) start0) (λ y p. HasPassed s key Walk (reverse l0) y p)
+        (x.legal, (here, x.owns)) (pass_safe s c (walk_job who key) (record { geometry = refl; hash = refl; bytes = bytes }) start0 (reverse l0) x.legal x.begin)))
         (λ m p d2 e same2. walked_safe p m e.1.0 e.1.1.0 e.0.start e.1.1.1 (walk_ends p p.end m e.0.opened e.0.from_then e.0.so) d2 same2))
       where
         enough : (v n : ℕ) → v + 138 * 0 + (resize_acts s.geometry tries + n * (v + resize_acts s.geometry tries)) ≤ suc n * (v + resize_acts s.geometry tries)
@@ -261,7 +257,7 @@ module _ (s : Setting) (c tries : ℕ) (key : List ℕ) (bytes : AreBytes key) (
   begins None left = refl
   begins (Some t) left = refl
 
-  walk_safe : (rank : ℕ) (d : List Change) (m : Entries) (start : Option ℕ) (left : ℕ) → Now rank m start left → changes_of s m ≡ d → SafeCall (judged s c part) (rank * round) d m (part (walking key start left)) Ends
+  walk_safe : (rank : ℕ) (d : List Change) (m : Entries) (start : Option ℕ) (left : ℕ) → Now rank m start left → changes_of s m ≡ d → SafeCall (judged s c part) (rank * round) d m (part (walking who key start left area)) Ends
   walk_safe zero d m start left x same = absurd (let y = x.count in omega arith)
   walk_safe (suc less) d m start left x same =
       subst (λ v. SafeCall (judged s c part) (suc less * round) d m v Ends) (begins start left) (round_safe less m start left x (λ d2 m2 start2 left2 y e2. walk_safe less d2 m2 start2 left2 y e2) d same)
@@ -270,9 +266,9 @@ module _ (s : Setting) (c tries : ℕ) (key : List ℕ) (bytes : AreBytes key) (
   few_ranks t n one = omega arith
 
   resize_safe : Legal s (reverse first) → MayCall s c k (Resize key) first → (o : Option Ticket) → ticket0 ≡ o → TicketFits s c o (reverse first)
-      → Goes (resize_most s.geometry tries) (changes_of s first) first (resize_call s.geometry c tries h key (entry_of cache h) area o)
+      → Goes (resize_most s.geometry tries) (changes_of s first) first (resize_call who key (entry_of cache h) area o)
   resize_safe lg m (Some tk) e ft =
-      SafeCall-more (judged s c part) Ends (acts + 0) (resize_most s.geometry tries) (changes_of s first) first (goes_on part (bind (resume tk tries) (λ r. after_own s.geometry c tries h key area None r.left r.outcome))) (one_round (tries + (s.geometry.max_depth - s.geometry.first_depth)))
+      SafeCall-more (judged s c part) Ends (acts + 0) (resize_most s.geometry tries) (changes_of s first) first (goes_on part (bind (resume tk tries) (λ r. after_own who key area None r.left r.outcome))) (one_round (tries + (s.geometry.max_depth - s.geometry.first_depth)))
       (resume_call_safe tk lg m.fits.owns ft m.some)
     where
       one_round : (n : ℕ) → acts + 0 ≤ (n + 1) * round

@@ -26,11 +26,6 @@ pub record StateFits (s : Setting) (c : ℕ) (q : Past) (k : State) : Type 0 whe
   pub owns : Owns s c k.area q
   pub ticket : TicketFits s c k.ticket q
 
--- a cache after a call of a hash: an entry is as before, or unknown, or it is the entry of the hash and names the table that is told
-pub record CacheAfter (old new : Cached) (h : ℕ) (told : Option ℕ) : Type 0 where
-  pub depth : new.depth ≡ old.depth
-  pub each : (i t : ℕ) → entry_of new i ≡ Some t → (entry_of old i ≡ Some t) ⊎ ((i % 2 ^ old.depth ≡ h % 2 ^ old.depth) × (told ≡ Some t))
-
 -- a fresh state fits each legal log, whoever did what before
 abbrev pub FreshFits : Type 0
 FreshFits = (s : Setting) (c : ℕ) (k : State) (q : Past) → k.geometry ≡ s.geometry → k.client ≡ c → k.cache.depth ≡ s.geometry.max_depth → ((h : ℕ) → entry_of k.cache h ≡ None) → k.area.left ≡ 0 → k.ticket ≡ None → StateFits s c q k

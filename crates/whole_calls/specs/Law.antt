@@ -15,10 +15,10 @@ use Rattle.race_laws.specs.Legal.{IsLegal}
 use Rattle.log_facts.specs.Among.{changes_of}
 use Rattle.pass_text.specs.Bound.{most_verbs}
 use Rattle.call_laws.specs.Judged.{judged}
-use Rattle.call_texts.specs.State.{State, CallEnd}
+use Rattle.call_texts.specs.State.{State, CallEnd, state_after}
 use Rattle.call_texts.specs.Text.{part_of, begin_call}
 use Rattle.call_texts.specs.Bound.{call_most, insert_acts, resize_most}
-use Rattle.whole_calls.specs.Fits.{StateFits, CacheAfter}
+use Rattle.whole_calls.specs.Fits.{StateFits}
 use Rattle.whole_calls.specs.Right.{Right}
 
 -- keys and values within their limits
@@ -33,19 +33,11 @@ IsCall (Resize key) = AreBytes key
 -- follow, and none but that of its last verb changes the map
 abbrev pub IsSafeWithin : ℕ → Setting → ℕ → State → Call → Entries → Type 0
 IsSafeWithin most s c k call l =
-    SafeCall (judged s c (part_of k (hash s (key_of call)))) most (changes_of s l) l (goes_on (part_of k (hash s (key_of call))) (begin_call k (hash s (key_of call)) call)) (Right s c call k l)
+    SafeCall (judged s c part_of) most (changes_of s l) l (goes_on part_of (begin_call k (hash s (key_of call)) call)) (Right s c call k l)
 
--- the state that a call leaves: its cache by the table that is told, and the area and the ticket that are told
-pub record StateAfter (s : Setting) (old new : State) (call : Call) (e : CallEnd) : Type 0 where
-  pub geometry : new.geometry ≡ old.geometry
-  pub client : new.client ≡ old.client
-  pub cache : CacheAfter old.cache new.cache (hash s (key_of call)) e.table
-  pub area : new.area ≡ e.area
-  pub ticket : new.ticket ≡ e.ticket
-
--- it fits the log again
+-- the state that a call leaves fits the log again
 abbrev pub LeavesFitting : Type 0
-LeavesFitting = (s : Setting) (c : ℕ) (k n : State) (call : Call) (first l : Entries) (before : List Change) (e : CallEnd) → IsLegal s l → Before (reverse first) (reverse l) → StateFits s c (reverse first) k → Right s c call k first before l e → StateAfter s k n call e → StateFits s c (reverse l) n
+LeavesFitting = (s : Setting) (c : ℕ) (k : State) (call : Call) (first l : Entries) (before : List Change) (e : CallEnd) → IsLegal s l → Before (reverse first) (reverse l) → StateFits s c (reverse first) k → Right s c call k first before l e → StateFits s c (reverse l) (state_after k e)
 
 -- a call with keys and values within their limits may begin: its key's hash is a word, it may lose a swap, and no more than 64, and
 -- the state fits the log

@@ -115,7 +115,9 @@ pub record Right (s : Setting) (c : ℕ) (call : Call) (k : State) (first : Entr
   pub quiet : is_quiet e.reply ≡ true → AtPoint s call first l e.reply
   -- a refusal has its cause
   pub cause : Cause s c call k (reverse first) (reverse l) e.reply
-  -- what the client keeps: a pass may start at the table that is told, the area is the client's, and the ticket fits
+  -- what the client keeps: a pass of the call's hash may start at the table that is told, the area is the client's, and the ticket
+  -- fits
+  pub of_key : e.hash ≡ hash s (key_of call)
   pub start : (t : ℕ) → e.table ≡ Some t → Start s.geometry (reverse l) (hash s (key_of call)) t
   pub owns : Owns s c e.area (reverse l)
   pub ticket : TicketFits s c e.ticket (reverse l)
