@@ -1,0 +1,11 @@
+mod Ways
+mod Bits
+mod Forgets
+mod Parts
+mod Rooms
+mod Acting
+mod Beginnings
+mod Splits
+mod Resumes
+mod Sweeps
+mod Inserts

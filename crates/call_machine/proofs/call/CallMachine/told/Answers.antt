@@ -1,0 +1,4 @@
+use Rattle.call_machine.proofs.call.CallMachine.told.Goals as goal
+
+pub settle-requires : goal.settle-requires
+settle-requires c = c.tell.ensures.spare c.args.self.now.task c.args.self.now.fits.0

@@ -1,0 +1,9 @@
+pub mod Fresh
+pub mod Low
+pub mod Tasks
+pub mod Rest
+pub mod Spare
+pub mod Fits
+pub mod Follows
+pub mod Beginning
+pub mod CallRest

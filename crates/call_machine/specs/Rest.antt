@@ -1,0 +1,76 @@
+-- What is left of a call, by the operation that is under way.
+use Rattle.std.specs.Prelude.{ℕ, Option, Some, None}
+use Rattle.verbs.specs.Programs.{Act, Prog, bind, next_act, Go}
+use Rattle.scan_pass.specs.Rest.{pass_rest}
+use Rattle.split_text.specs.declared.resized.ResizeEnd.{ResizeEnd}
+use Rattle.pass_text.specs.declared.passed.Passed.{Passed}
+use Rattle.op_search.specs.declared.end.SearchEnd.{SearchEnd}
+use Rattle.op_search.specs.Rest.{search_rest}
+use Rattle.op_delete.specs.declared.end.DeleteEnd.{DeleteEnd}
+use Rattle.op_delete.specs.Rest.{delete_rest}
+use Rattle.op_update.specs.declared.end.UpdateEnd.{UpdateEnd}
+use Rattle.op_update.specs.Rest.{update_rest}
+use Rattle.op_insert.specs.declared.end.InsertEnd.{InsertEnd}
+use Rattle.op_insert.specs.InsertRest.{insert_rest}
+use Rattle.remote_resize.specs.ResizeOpRest.{resize_rest}
+use Rattle.map_model.specs.declared.calls.Reply.TheVariants.{FullDepth}
+use Rattle.call_texts.specs.State.{Stage, CallEnd}
+use Rattle.call_texts.specs.Text.{ended, after_search, after_delete, after_update, after_insert, after_split, after_walk, after_own}
+use Rattle.call_machine.specs.declared.task.Task.{Task}
+use Rattle.call_machine.specs.declared.op.Op.{Op}
+use Rattle.call_machine.specs.declared.op.Op.TheVariants as op
+use Rattle.call_machine.specs.Tasks.{caller_in, pair_in, inserting_in, insert_end_in}
+
+-- the parts of calls with the types of this client's stages and ends
+abbrev pub Left : Type 0
+Left = Prog (Go Stage CallEnd)
+
+-- what follows each operation
+abbrev pub on_search : Task → SearchEnd → Left
+on_search t e = after_search (caller_in t) t.area t.ticket e.table e.outcome
+
+abbrev pub on_delete : Task → DeleteEnd → Left
+on_delete t e = after_delete (caller_in t) t.area t.ticket e.table e.outcome
+
+abbrev pub on_update : Task → UpdateEnd → Left
+on_update t e = after_update (caller_in t) t.ticket e e.outcome
+
+abbrev pub on_insert : Task → InsertEnd → Left
+on_insert t e = after_insert (caller_in t) (pair_in t) (inserting_in t) e e.outcome
+
+abbrev pub on_room : Task → ResizeEnd → Left
+on_room t r = after_split (caller_in t) (pair_in t) (inserting_in t) (insert_end_in t) t.kept t.depth r.left r.outcome
+
+abbrev pub on_walk : Task → Passed → Left
+on_walk t p = after_walk (caller_in t) t.key t.area t.left p
+
+-- the walk ended at this table, or there was none
+abbrev pub on_split : Task → Option ℕ → ResizeEnd → Left
+on_split t table r = after_own (caller_in t) t.key t.area table r.left r.outcome
+
+-- the table is as deep as may be
+abbrev pub full : Task → Left
+full t = ended (caller_in t) (FullDepth t.geometry.max_depth) 0 0 (Some t.table) t.forgotten t.area None
+
+abbrev pub rest_of : Task → Op → Left
+rest_of t (op.Search p) = bind (search_rest p) (on_search t)
+rest_of t (op.Delete p) = bind (delete_rest p) (on_delete t)
+rest_of t (op.Update p) = bind (update_rest p) (on_update t)
+rest_of t (op.Insert p) = bind (insert_rest p) (on_insert t)
+rest_of t (op.Room p) = bind (resize_rest p) (on_room t)
+rest_of t (op.Walk p) = bind (pass_rest p) (on_walk t)
+rest_of t (op.Split p) = bind (resize_rest p) (on_split t (Some t.table))
+rest_of t (op.Resume p) = bind (resize_rest p) (on_split t None)
+rest_of t op.Full = full t
+
+-- the act of the operation
+abbrev pub act_of : Op → Option Act
+act_of (op.Search p) = next_act (search_rest p)
+act_of (op.Delete p) = next_act (delete_rest p)
+act_of (op.Update p) = next_act (update_rest p)
+act_of (op.Insert p) = next_act (insert_rest p)
+act_of (op.Room p) = next_act (resize_rest p)
+act_of (op.Walk p) = next_act (pass_rest p)
+act_of (op.Split p) = next_act (resize_rest p)
+act_of (op.Resume p) = next_act (resize_rest p)
+act_of op.Full = None
