@@ -1,0 +1,5 @@
+pub mod Sorts
+pub mod Bound
+pub mod Fits
+pub mod Safety
+pub mod Texts
