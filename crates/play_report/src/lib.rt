@@ -8,4 +8,4 @@
 mod line_words;
 mod report;
 
-pub use report::{Line, Lines, Mode, Tag, reply_text, report_text};
+pub use report::{Line, Lines, Mode, Tag, put_end, reply_text, report_text};

@@ -232,8 +232,9 @@ fn changing_calls(lines: &Lines) -> usize
     lines.iter().filter(|line| is_change_line(line)).count()
 }
 
-// Appends the last line.
-fn put_end(out: &mut Writer, lines: &Lines, next: &Nexts) -> Result<(), AllocError>
+/// Appends the last line of the report of these calls: how many were answered, are open and changed the map, and the next
+/// free words. It fails only for want of memory.
+pub fn put_end(out: &mut Writer, lines: &Lines, next: &Nexts) -> Result<(), AllocError>
     ensures { OnOk result (out.new.items ≡ out.old.items ++ end_line lines.now.items next.now) }
 {
     out.put_word_number(b"end calls=", answered_calls(lines) as u64)?;

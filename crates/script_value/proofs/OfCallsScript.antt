@@ -62,11 +62,11 @@ made-sizes g tries deep least most =
     (ap is_none (no-fault g))
 
 -- how wide a line is, with a byte behind each word
-abbrev widths : List (List ℕ) → ℕ
+abbrev pub widths : List (List ℕ) → ℕ
 widths [] = 0
 widths (w ∷ ws) = suc (length w + widths ws)
 
-line-width : (ws : List (List ℕ)) → length (line_of ws) ≤ widths ws
+pub line-width : (ws : List (List ℕ)) → length (line_of ws) ≤ widths ws
 line-width [] = omega arith
 line-width (w ∷ []) = omega arith
 line-width (w ∷ v ∷ ws) =
@@ -79,7 +79,7 @@ hex-width : (bytes : List ℕ) → length (hex_text bytes) ≡ 2 * length bytes
 hex-width [] = refl
 hex-width (b ∷ bs) = let others = hex-width bs in omega (arith, others)
 
-spelled-width : (bytes : List ℕ) → length (spelled bytes) ≤ 1 + 2 * length bytes
+pub spelled-width : (bytes : List ℕ) → length (spelled bytes) ≤ 1 + 2 * length bytes
 unfolding spelled
 spelled-width bytes = by (is_plain_text bytes)
   where
@@ -167,7 +167,7 @@ schedule-lines names clients (line ∷ lines) short h =
 number-width : (n : ℕ) → n < 2 ^ 64 → length (decimal n) ≤ 20
 number-width n h = length-decimal-le 20 n (omega arith) (omega arith) h
 
-table-line : (g : Geometry) (tries : ℕ) → tries ≤ 64 → IsShort (table_words 1 (sizes_of g tries))
+pub table-line : (g : Geometry) (tries : ℕ) → tries ≤ 64 → IsShort (table_words 1 (sizes_of g tries))
 table-line g tries most =
     let groups = number-width g.groups (let few = (group_range g.groups g.grouped).1 in omega (arith, few)) in
     let depth = number-width g.max_depth (let deep = g.deep in omega (arith, deep)) in
@@ -180,7 +180,7 @@ table-line g tries most =
     let d = length-append (codes "tries=") (decimal tries) in
     omega (arith, groups, depth, words, tried, line, a, b, c, d)
 
-header-line : IsShort (header_words 1)
+pub header-line : IsShort (header_words 1)
 header-line =
     let one = number-width 1 (omega arith) in
     let line = line-width (header_words 1) in
