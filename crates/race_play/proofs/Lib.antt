@@ -1,7 +1,5 @@
-pub mod Gathering
-pub mod Holdings
-pub mod OpenTable
-pub mod Plainness
-pub mod Playing
-pub mod Seating
-pub mod Lacking
+pub mod Words
+pub mod Lines
+pub mod Beginning
+pub mod Results
+pub mod Sources

@@ -1,6 +1,6 @@
-pub mod Holding
-pub mod Layout
-pub mod Outcomes
+pub mod Commands
+pub mod Planned
+pub mod Nexts
 pub mod Plays
-pub mod Refusals
-pub mod Replies
+pub mod Texts
+pub mod Outcomes

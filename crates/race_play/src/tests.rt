@@ -136,6 +136,64 @@ const ONE_TABLE_FULL_REPORT: &[u8] = b"race 1 replay\n\
     map k21 1\n\
     end calls=22 open=0 changes=21 next=110\n";
 
+const SECOND_INSERT_WINS_SCRIPT: &[u8] = b"race 1\n\
+    table groups=1 depth=0 words=100 tries=3\n\
+    hash k 0000000000000000\n\
+    client a\n\
+    insert k 1\n\
+    client b\n\
+    insert k 2\n\
+    schedule a*31 b! a!\n\
+    end\n";
+
+const SECOND_INSERT_WINS_REPORT: &[u8] = b"race 1 replay\n\
+    a 1 insert k 1 exists 2 @1\n\
+    b 1 insert k 2 inserted @0\n\
+    map k 2\n\
+    end calls=2 open=0 changes=1 next=53\n";
+
+const FINISHED_INSERT_KEPT_SCRIPT: &[u8] = b"race 1\n\
+    table groups=1 depth=0 words=100 tries=3\n\
+    hash x 0100000000000000\n\
+    hash y 0200000000000000\n\
+    hash k 0300000000000000\n\
+    client s\n\
+    insert x 9\n\
+    insert y 9\n\
+    delete x\n\
+    client a\n\
+    insert k 1\n\
+    client b\n\
+    insert k 2\n\
+    client c\n\
+    delete k\n\
+    schedule s! s! a*25 s! b*25 a! b*6 c! b!\n\
+    end\n";
+
+const FINISHED_INSERT_KEPT_REPORT: &[u8] = b"race 1 replay\n\
+    s 1 insert x 9 inserted @0\n\
+    s 2 insert y 9 inserted @1\n\
+    s 3 delete x deleted 9 @2\n\
+    a 1 insert k 1 inserted @3\n\
+    b 1 insert k 2 inserted @5\n\
+    c 1 delete k deleted 1 @4\n\
+    map k 2\n\
+    map y 9\n\
+    end calls=6 open=0 changes=6 next=59\n";
+
+const STOP_INSIDE_SECOND_SEARCH_SCRIPT: &[u8] = b"race 1\n\
+    table groups=1 depth=0 words=100 tries=3\n\
+    client a\n\
+    search j\n\
+    search j\n\
+    stop a 47\n\
+    end\n";
+
+const STOP_INSIDE_SECOND_SEARCH_REPORT: &[u8] = b"race 1 replay\n\
+    a 1 search j missing @0\n\
+    a 2 search j open\n\
+    end calls=1 open=1 changes=0 next=47\n";
+
 // Plays the script from a source and to a sink some of whose calls fail: the status, and that the sink took this.
 fn expect<R: Abort>(
     rt: &R,
@@ -164,6 +222,12 @@ fn worked_rows(rt: HostRuntime) -> Result<(), Fail> {
         (NO_ROOM_FOR_BLOCK_SCRIPT, NO_ROOM_FOR_BLOCK_REPORT),
         (ROOM_FOR_BLOCK_SCRIPT, ROOM_FOR_BLOCK_REPORT),
         (ONE_TABLE_FULL_SCRIPT, ONE_TABLE_FULL_REPORT),
+        (SECOND_INSERT_WINS_SCRIPT, SECOND_INSERT_WINS_REPORT),
+        (FINISHED_INSERT_KEPT_SCRIPT, FINISHED_INSERT_KEPT_REPORT),
+        (
+            STOP_INSIDE_SECOND_SEARCH_SCRIPT,
+            STOP_INSIDE_SECOND_SEARCH_REPORT,
+        ),
     ] {
         expect(&rt, rt.alloc(), script, &[], &[], 4096, 0, report)?;
     }
@@ -207,8 +271,9 @@ fn largest_sizes(rt: HostRuntime) -> Result<(), Fail> {
 fn words_that_are_no_command(rt: HostRuntime) {
     let none: &[&str] = &[];
     let now: &[&str] = &["replay", "now"];
-    let storm: &[&str] = &["storm", "01", "2", "5"];
-    for words in [none, now, storm] {
+    let zero: &[&str] = &["storm", "01", "2", "5"];
+    let crowd: &[&str] = &["storm", "1", "17", "5"];
+    for words in [none, now, zero, crowd] {
         let mut source = CleanSource::new(SMALLEST_RUN_SCRIPT);
         let ended = race(rt.alloc(), words, &mut source, &mut CleanSink::new());
         assert_eq!(rt; ended.status, 2);
@@ -254,52 +319,15 @@ fn cut_scripts(rt: HostRuntime) -> Result<(), Fail> {
     Ok(())
 }
 
-// Scripts of the grammar that are not played yet are refused at the first line that is not, and a sink that fails takes a part
-// of that line.
+// A script that is refused, and a sink that fails takes a part of the line.
 #[test]
 fn refused_scripts(rt: HostRuntime) -> Result<(), Fail> {
-    for (script, line) in [
-        (
-            b"race 2\ntable groups=1 depth=0 first=0 nodes=1 words=100 tries=3\nclient a\nend\n".as_slice(),
-            b"refused line 1 header\n".as_slice(),
-        ),
-        (
-            b"race 1\ntable groups=2 depth=0 words=100 tries=3\nclient a\nend\n",
-            b"refused line 2 table\n",
-        ),
-        (
-            b"race 1\ntable groups=1 depth=1 words=100 tries=3\nhash k 0000000000000001\nclient a\nend\n",
-            b"refused line 2 table\n",
-        ),
-        (
-            b"race 1\ntable groups=1 depth=0 words=100 tries=3\nhash k 0000000000000001\nclient a\ndelete k\nend\n",
-            b"refused line 3 word\n",
-        ),
-        (
-            b"race 1\ntable groups=1 depth=0 words=100 tries=3\nclient a\nsearch k\ndelete k\nclient b\nend\n",
-            b"refused line 5 word\n",
-        ),
-        (
-            b"race 1\ntable groups=1 depth=0 words=100 tries=3\nclient a\ninsert k 1\nsearch k\nclient b\nend\n",
-            b"refused line 6 word\n",
-        ),
-        (
-            b"race 1\ntable groups=1 depth=0 words=100 tries=3\nclient a\nstop a 3\nend\n",
-            b"refused line 4 word\n",
-        ),
-        (
-            b"race 1\ntable groups=1 depth=0 words=100 tries=3\nclient a\nsearch k\nschedule a*5\nend\n",
-            b"refused line 5 word\n",
-        ),
-        (
-            b"race 1\ntable groups=1 depth=0 words=100 tries=3\nclient a\ninsert k 1\nsearch\nend\n",
-            b"refused line 5 word\n",
-        ),
-    ] {
-        expect(&rt, rt.alloc(), script, &[], &[], 4096, 3, line)?;
-        expect(&rt, rt.alloc(), script, &[], &[1], 4096, 3, b"")?;
-        expect(&rt, rt.alloc(), script, &[], &[], 10, 3, b"refused li")?;
-    }
+    let script =
+        b"race 1\ntable groups=1 depth=0 words=100 tries=3\nclient a\ninsert k 1\nsearch\nend\n";
+    let line = b"refused line 5 word\n";
+    expect(&rt, rt.alloc(), script, &[], &[], 4096, 3, line)?;
+    expect(&rt, rt.alloc(), script, &[], &[1], 4096, 3, b"")?;
+    expect(&rt, rt.alloc(), script, &[], &[], 10, 3, b"refused li")?;
     Ok(())
 }
 
@@ -319,4 +347,30 @@ fn smallest_run_or_want_of_memory(rt: HostRuntime) {
         assert_eq!(rt; ended.status, 0);
         assert_eq!(rt; sink.taken(), SMALLEST_RUN_REPORT);
     }
+}
+
+const STORM_OF_FOUR: &[u8] = b"race 1 storm 7 4 250\n\
+    inserted 229\n\
+    exists 253\n\
+    found 157\n\
+    missing 222\n\
+    updated 65\n\
+    deleted 74\n\
+    again 0\n\
+    full-depth 0\n\
+    full-words 0\n\
+    no-block 0\n\
+    keys 155\n\
+    end calls=1000 open=0 changes=368 next=4586\n";
+
+// A storm reads nothing, and its summary is that of the specification.
+#[test]
+fn storm_of_four(rt: HostRuntime) -> Result<(), Fail> {
+    let mut source = MemorySource::new(SMALLEST_RUN_SCRIPT, &[1]);
+    let mut sink = MemorySink::new(vec![in rt.alloc(); 0u8; 4096]?, &[]);
+    let words = ["storm", "7", "4", "250"];
+    let ended = race(rt.alloc(), &words, &mut source, &mut sink);
+    assert_eq!(rt; ended.status, 0);
+    assert_eq!(rt; sink.taken(), STORM_OF_FOUR);
+    Ok(())
 }

@@ -1,33 +1,44 @@
 //! The call that reads a script, plays it and writes its report.
-ghost use Rattle.std.specs.Prelude.{◌≡◌, ℕ, ◌≤◌, ◌↔◌, [], ◌∷◌, IsTrue, codes, map, List, ◌⊎◌};
+ghost use Rattle.std.specs.Prelude.{◌≡◌, ℕ, ◌≤◌, ◌↔◌, map, List, Option, None, Some, ◌⊎◌};
 ghost use Rattle.race_io.specs.Counts.{Rose};
-ghost use Rattle.race_io.specs.Transfer.{TakesSome};
-ghost use Rattle.race_play.specs.Outcomes.{IsStatus, Plays, PlaysInPart, Refuses, Tells};
+ghost use Rattle.race_io.specs.Transfer.{TakesSome, AppendsPart};
+ghost use Rattle.std.specs.Io.KnownBytes.{Appends};
+ghost use Rattle.race_play.specs.Commands.{command_of};
+ghost use Rattle.race_play.specs.Outcomes.{IsCommand, IsStatus, Refuses, Tells, TellsFront, Writes, WritesInPart};
+ghost use Rattle.race_play.specs.declared.command.Command.{Command};
+ghost use Rattle.race_play.specs.declared.command.Command.TheVariants.{Replay, Storm};
 
-use crate::player::{PlayFault, replay_text};
+use crate::command::{Command, command_of};
+use crate::texts::{Account, PlayFault, replay_account, storm_account};
+use client_seat::Front;
 use race_io::{Sink, Source, TakeFault, put_all, take_all};
 use std::alloc::Global;
 use trace_script::Refusal;
 use trace_script::limits::MOST_BYTES;
 
 /// How a call of the program ended.
-#[derive(Clone, Copy, Debug, PartialEq, Eq)]
+#[derive(Drop)]
 pub struct Ended {
-    /// 0: the script was played and its whole report written. 2: the words are no command. 3: the bytes read are no
-    /// script of this form. 4: the source failed. 5: the sink failed. 6: want of memory.
+    /// 0: the script was played and its whole report or summary written. 2: the words are no command. 3: the bytes read are no
+    /// script. 4: the source failed. 5: the sink failed. 6: want of memory.
     pub status: u8,
+    /// The log of the play. None exactly where nothing was played to its end: at the statuses 2, 3, 4 and 6.
+    pub front: Option<Front>,
 }
 
 /// The most bytes that are read: one more than a script may have.
 const MOST_READ: u64 = MOST_BYTES as u64 + 1;
 
-// Whether the words are the command `replay`.
-fn is_replay(words: &[&str]) -> bool
-    ensures { IsTrue result ↔ (map (λ word. word.now) words.now ≡ codes "replay" ∷ []) }
-{
-    match words {
-        [word] => *word == "replay",
-        _ => false,
+impl Ended {
+    // Nothing was played.
+    fn unplayed(status: u8) -> Ended
+        ensures status { result.status ≡ status }
+        ensures front { result.front ≡ None }
+    {
+        Ended {
+            status,
+            front: None,
+        }
     }
 }
 
@@ -36,49 +47,117 @@ fn refuse<K: Sink>(alloc: Global, refusal: &Refusal, sink: &mut K) -> Ended
     ensures statuses { (result.status ≡ 3) ⊎ (result.status ≡ 6) }
     ensures told { result.status ≡ 3 → Tells (K.taken sink.old) (K.taken sink.new) (K.faults sink.old) (K.faults sink.new) (refusal.now.line, refusal.now.kind) }
     ensures wanting { result.status ≡ 6 → sink.new ≡ sink.old }
+    ensures front { result.front ≡ None }
     ensures counted { K.faults sink.old ≤ K.faults sink.new }
 {
     let Ok(text) = refusal.text(alloc) else {
-        return Ended { status: 6 };
+        return Ended::unplayed(6);
     };
     let _ = put_all(sink, text.as_slice());
-    Ended { status: 3 }
+    Ended::unplayed(3)
 }
 
-/// Reads the source to its end, plays the script and writes its report. Every call returns, and nothing is written
-/// before the whole report is made.
+// Writes the text of a play. The status is 0, or 5 where the sink fails.
+fn write<K: Sink>(account: Account, sink: &mut K) -> Ended
+    ensures statuses { (result.status ≡ 0) ⊎ (result.status ≡ 5) }
+    ensures whole { result.status ≡ 0 → Appends (K.taken sink.old) (K.taken sink.new) account.text.items }
+    ensures part { result.status ≡ 5 → AppendsPart (K.taken sink.old) (K.taken sink.new) account.text.items }
+    ensures rose { result.status ≡ 5 → Rose (K.faults sink.old) (K.faults sink.new) }
+    ensures front { result.front ≡ Some account.front }
+    ensures counted { K.faults sink.old ≤ K.faults sink.new }
+{
+    let Account { text, front } = account;
+    let status = match put_all(sink, text.as_slice()) {
+        Ok(()) => 0,
+        Err(_) => 5,
+    };
+    Ended {
+        status,
+        front: Some(front),
+    }
+}
+
+// Reads the source to its end, plays the script and writes its report.
+fn replay_source<S: Source, K: Sink>(alloc: Global, source: &mut S, sink: &mut K) -> Ended
+    ensures statuses { IsStatus result.status }
+    ensures front { TellsFront result.status result.front }
+    ensures played { result.status ≡ 0 → Writes Replay (S.left source.old) (S.left source.new) (K.taken sink.old) (K.taken sink.new) result.front }
+    ensures refused { result.status ≡ 3 → Refuses Replay (S.left source.old) (S.left source.new) (K.taken sink.old) (K.taken sink.new) (K.faults sink.old) (K.faults sink.new) }
+    ensures failed { result.status ≡ 4 → Rose (S.faults source.old) (S.faults source.new) }
+    ensures failed_part { result.status ≡ 4 → TakesSome (S.left source.old) (S.left source.new) 4194305 }
+    ensures failed_unwritten { result.status ≡ 4 → sink.new ≡ sink.old }
+    ensures cut_off { result.status ≡ 5 → Rose (K.faults sink.old) (K.faults sink.new) }
+    ensures in_part { result.status ≡ 5 → WritesInPart Replay (S.left source.old) (S.left source.new) (K.taken sink.old) (K.taken sink.new) result.front }
+    ensures wanting { result.status ≡ 6 → sink.new ≡ sink.old }
+    ensures wanting_part { result.status ≡ 6 → TakesSome (S.left source.old) (S.left source.new) 4194305 }
+    ensures source_counted { S.faults source.old ≤ S.faults source.new }
+    ensures sink_counted { K.faults sink.old ≤ K.faults sink.new }
+{
+    let bytes = match take_all(alloc, source, MOST_READ) {
+        Ok(bytes) => bytes,
+        Err(TakeFault::Failed) => return Ended::unplayed(4),
+        Err(TakeFault::OutOfMemory) => return Ended::unplayed(6),
+    };
+    match replay_account(alloc, bytes.as_slice()) {
+        Ok(account) => write(account, sink),
+        Err(PlayFault::Refused(refusal)) => refuse(alloc, &refusal, sink),
+        Err(PlayFault::OutOfMemory) => Ended::unplayed(6),
+    }
+}
+
+// Plays the storm and writes its summary.
+fn sum_up<K: Sink>(alloc: Global, seed: u64, clients: u32, calls: u32, sink: &mut K) -> Ended
+    requires { IsCommand (Storm seed clients calls) }
+    ensures statuses { (result.status ≡ 0) ⊎ (result.status ≡ 5) ⊎ (result.status ≡ 6) }
+    ensures front { TellsFront result.status result.front }
+    ensures played { (left_old left_new : Option (List ℕ)) → result.status ≡ 0 → Writes (Storm seed clients calls) left_old left_new (K.taken sink.old) (K.taken sink.new) result.front }
+    ensures cut_off { result.status ≡ 5 → Rose (K.faults sink.old) (K.faults sink.new) }
+    ensures in_part { (left_old left_new : Option (List ℕ)) → result.status ≡ 5 → WritesInPart (Storm seed clients calls) left_old left_new (K.taken sink.old) (K.taken sink.new) result.front }
+    ensures wanting { result.status ≡ 6 → sink.new ≡ sink.old }
+    ensures counted { K.faults sink.old ≤ K.faults sink.new }
+{
+    match storm_account(alloc, seed, clients, calls) {
+        Ok(account) => write(account, sink),
+        Err(_) => Ended::unplayed(6),
+    }
+}
+
+/// Does a command: reads the source to its end where the command reads a script, plays the script by its schedule and writes the
+/// report, or for a storm the summary. Every call returns, and nothing is written before the whole text is made. The numbers of a
+/// storm are within their limits.
 ///
-/// The status is 2 exactly where the words are not `replay` alone, and then nothing is read or written. It is 4 only
-/// where the source's count of faults rose, and 5 only where the sink's count rose, after the play. It is 3 exactly
-/// where no read failed and the bytes read are no script of this form: then the line of the refusal is written, or a part
-/// from its front where the sink fails. At 6 memory was wanting, and nothing is written.
-pub fn race<S: Source, K: Sink>(
+/// The status is 4 only where the source's count of faults rose, and 5 only where the sink's count rose, after the play. It is 3
+/// exactly where the command reads a script, no read failed and the bytes read are none: then the line of the refusal is written,
+/// or a part from its front where the sink fails. At 6 memory was wanting, and nothing is written. A storm reads nothing.
+pub fn replay<S: Source, K: Sink>(
     alloc: Global,
-    words: &[&str],
+    command: &Command,
     source: &mut S,
     sink: &mut K,
 ) -> Ended
+    requires { IsCommand command.now }
     ensures statuses { IsStatus result.status }
-    ensures command { (result.status ≡ 2) ↔ ¬ (map (λ word. word.now) words.now ≡ codes "replay" ∷ []) }
 
-    // The words are no command: nothing is read or written.
-    ensures unread { result.status ≡ 2 → source.new ≡ source.old }
-    ensures unused { result.status ≡ 2 → sink.new ≡ sink.old }
+    // The log is told exactly at 0 and 5.
+    ensures front { TellsFront result.status result.front }
 
-    // The script was played and its whole report written.
-    ensures played { result.status ≡ 0 → Plays (S.left source.old) (S.left source.new) (K.taken sink.old) (K.taken sink.new) }
+    // A storm reads nothing.
+    ensures unread { (seed clients calls : ℕ) → command.now ≡ Storm seed clients calls → source.new ≡ source.old }
 
-    // The bytes are no script of this form, and the line of their refusal was written.
-    ensures refused { result.status ≡ 3 → Refuses (S.left source.old) (S.left source.new) (K.taken sink.old) (K.taken sink.new) (K.faults sink.old) (K.faults sink.new) }
+    // The script was played and its whole text written.
+    ensures played { result.status ≡ 0 → Writes command.now (S.left source.old) (S.left source.new) (K.taken sink.old) (K.taken sink.new) result.front }
+
+    // The bytes are no script, and the line of their refusal was written.
+    ensures refused { result.status ≡ 3 → Refuses command.now (S.left source.old) (S.left source.new) (K.taken sink.old) (K.taken sink.new) (K.faults sink.old) (K.faults sink.new) }
 
     // The source failed: its count of faults rose.
     ensures failed { result.status ≡ 4 → Rose (S.faults source.old) (S.faults source.new) }
     ensures failed_part { result.status ≡ 4 → TakesSome (S.left source.old) (S.left source.new) 4194305 }
     ensures failed_unwritten { result.status ≡ 4 → sink.new ≡ sink.old }
 
-    // The sink failed: its count of faults rose, and the report was written in part.
+    // The sink failed: its count of faults rose, and the text was written in part.
     ensures cut_off { result.status ≡ 5 → Rose (K.faults sink.old) (K.faults sink.new) }
-    ensures in_part { result.status ≡ 5 → PlaysInPart (S.left source.old) (S.left source.new) (K.taken sink.old) (K.taken sink.new) }
+    ensures in_part { result.status ≡ 5 → WritesInPart command.now (S.left source.old) (S.left source.new) (K.taken sink.old) (K.taken sink.new) result.front }
 
     // There was no memory: what was read is a part of the source, or all of it up to the limit.
     ensures wanting { result.status ≡ 6 → sink.new ≡ sink.old }
@@ -87,21 +166,62 @@ pub fn race<S: Source, K: Sink>(
     ensures source_counted { S.faults source.old ≤ S.faults source.new }
     ensures sink_counted { K.faults sink.old ≤ K.faults sink.new }
 {
-    if !is_replay(words) {
-        return Ended { status: 2 };
+    match *command {
+        Command::Replay => replay_source(alloc, source, sink),
+        Command::Storm {
+            seed,
+            clients,
+            calls,
+        } => sum_up(alloc, seed, clients, calls, sink),
     }
-    let bytes = match take_all(alloc, source, MOST_READ) {
-        Ok(bytes) => bytes,
-        Err(TakeFault::Failed) => return Ended { status: 4 },
-        Err(TakeFault::OutOfMemory) => return Ended { status: 6 },
-    };
-    let text = match replay_text(alloc, bytes.as_slice()) {
-        Ok(text) => text,
-        Err(PlayFault::Refused(refusal)) => return refuse(alloc, &refusal, sink),
-        Err(PlayFault::OutOfMemory) => return Ended { status: 6 },
-    };
-    match put_all(sink, text.as_slice()) {
-        Ok(()) => Ended { status: 0 },
-        Err(_) => Ended { status: 5 },
+}
+
+/// Does the command that the words name, as `replay` does it. The status is 2 exactly where they name none, and then nothing is
+/// read or written.
+pub fn race<S: Source, K: Sink>(
+    alloc: Global,
+    words: &[&str],
+    source: &mut S,
+    sink: &mut K,
+) -> Ended
+    ensures statuses { (result.status ≡ 2) ⊎ IsStatus result.status }
+    ensures command { (result.status ≡ 2) ↔ (command_of (map (λ word. word.now) words.now) ≡ None) }
+    ensures front { TellsFront result.status result.front }
+
+    // The words are no command: nothing is read or written.
+    ensures unread { result.status ≡ 2 → source.new ≡ source.old }
+    ensures unused { result.status ≡ 2 → sink.new ≡ sink.old }
+
+    // A storm reads nothing.
+    ensures storm { (seed clients calls : ℕ) → command_of (map (λ word. word.now) words.now) ≡ Some (Storm seed clients calls) → source.new ≡ source.old }
+
+    // The script was played and its whole text written.
+    ensures played { (command : Command) → command_of (map (λ word. word.now) words.now) ≡ Some command → result.status ≡ 0
+        → Writes command (S.left source.old) (S.left source.new) (K.taken sink.old) (K.taken sink.new) result.front }
+
+    // The bytes are no script, and the line of their refusal was written.
+    ensures refused { (command : Command) → command_of (map (λ word. word.now) words.now) ≡ Some command → result.status ≡ 3
+        → Refuses command (S.left source.old) (S.left source.new) (K.taken sink.old) (K.taken sink.new) (K.faults sink.old) (K.faults sink.new) }
+
+    // The source failed: its count of faults rose.
+    ensures failed { result.status ≡ 4 → Rose (S.faults source.old) (S.faults source.new) }
+    ensures failed_part { result.status ≡ 4 → TakesSome (S.left source.old) (S.left source.new) 4194305 }
+    ensures failed_unwritten { result.status ≡ 4 → sink.new ≡ sink.old }
+
+    // The sink failed: its count of faults rose, and the text was written in part.
+    ensures cut_off { result.status ≡ 5 → Rose (K.faults sink.old) (K.faults sink.new) }
+    ensures in_part { (command : Command) → command_of (map (λ word. word.now) words.now) ≡ Some command → result.status ≡ 5
+        → WritesInPart command (S.left source.old) (S.left source.new) (K.taken sink.old) (K.taken sink.new) result.front }
+
+    // There was no memory: what was read is a part of the source, or all of it up to the limit.
+    ensures wanting { result.status ≡ 6 → sink.new ≡ sink.old }
+    ensures wanting_part { result.status ≡ 6 → TakesSome (S.left source.old) (S.left source.new) 4194305 }
+
+    ensures source_counted { S.faults source.old ≤ S.faults source.new }
+    ensures sink_counted { K.faults sink.old ≤ K.faults sink.new }
+{
+    match command_of(words) {
+        Some(command) => replay(alloc, &command, source, sink),
+        None => Ended::unplayed(2),
     }
 }

@@ -1,10 +1,9 @@
-use Rattle.std.proofs.Common.{rules, ◌≡◌, List, ℕ, ◌∙◌, subst}
-use Rattle.race_play.specs.Outcomes.{Tells}
+use Rattle.std.proofs.Common.{◌≡◌, List, ℕ, ◌∙◌, subst}
 use Rattle.race_io.specs.Counts.{Rose}
 use Rattle.race_io.specs.Transfer.{AppendsPart}
 use Rattle.std.specs.Io.KnownBytes.{Appends}
 use Rattle.std.specs.Prelude.{◌⊎◌}
-use Rattle.race_play.proofs.Lacking.{put_or_failed}
+use Rattle.race_play.proofs.Sources.{put_or_failed}
 use Rattle.race_play.proofs.top.refuse.Goals as goal
 
 pub returns-clause-told : goal.returns-clause-told

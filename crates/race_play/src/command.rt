@@ -1,0 +1,66 @@
+//! The commands of the program.
+ghost use Rattle.std.specs.Prelude.{◌≡◌, [], ◌∷◌, map};
+ghost use Rattle.race_play.specs.Commands.{command_of, storm_of};
+
+use spelling::read_number;
+
+/// A command of the program.
+#[derive(Clone, Copy, Debug, PartialEq, Eq)]
+pub enum Command {
+    /// Plays the script of standard input by its schedule.
+    Replay,
+    /// Makes the script of a storm, plays it and sums its play up: 1 to 16 clients, with 1 to 1,024 calls each.
+    Storm { seed: u64, clients: u32, calls: u32 },
+}
+
+// A storm of these numbers, where they are within their limits.
+fn storm_of(seed: Option<u64>, clients: Option<u64>, calls: Option<u64>) -> Option<Command>
+    ensures { result ≡ storm_of seed clients calls }
+{
+    let (seed, clients, calls) = (seed?, clients?, calls?);
+    if (1..=16).contains(&clients) && (1..=1024).contains(&calls) {
+        return Some(Command::Storm {
+            seed,
+            clients: clients as u32,
+            calls: calls as u32,
+        });
+    }
+    None
+}
+
+// The command of one word.
+fn replay_of(word: &str) -> Option<Command>
+    ensures { result ≡ command_of (word.now ∷ []) }
+{
+    if word == "replay" {
+        Some(Command::Replay)
+    } else {
+        None
+    }
+}
+
+// The command of four words.
+fn storm_told(word: &str, seed: &str, clients: &str, calls: &str) -> Option<Command>
+    ensures { result ≡ command_of (word.now ∷ seed.now ∷ clients.now ∷ calls.now ∷ []) }
+{
+    if word != "storm" {
+        return None;
+    }
+    storm_of(
+        read_number(seed.as_bytes()),
+        read_number(clients.as_bytes()),
+        read_number(calls.as_bytes()),
+    )
+}
+
+/// The command that the words name: `replay` alone, or `storm` with a seed below 2^64, 1 to 16 clients and 1 to 1,024 calls,
+/// decimal numbers without sign and without a zero in front. None exactly where the words are no such command.
+pub fn command_of(words: &[&str]) -> Option<Command>
+    ensures { result ≡ command_of (map (λ word. word.now) words.now) }
+{
+    match words {
+        [word] => replay_of(word),
+        [word, seed, clients, calls] => storm_told(word, seed, clients, calls),
+        _ => None,
+    }
+}
