@@ -1,0 +1,5 @@
+pub mod Breaks
+pub mod Kept
+pub mod Outcome
+pub mod Shape
+pub mod Law

@@ -1,0 +1,16 @@
+pub mod Members
+pub mod Pairwise
+pub mod Offsets
+pub mod Tables
+pub mod SoundWords
+pub mod OneAnswer
+pub mod SetPairs
+pub mod OneMap
+pub mod WordForms
+pub mod Fixed
+pub mod LogTables
+pub mod QuietSound
+pub mod Holders
+pub mod Beyond
+pub mod Whole
+pub mod OpeningQuiet

@@ -1,0 +1,6 @@
+pub mod ByteNumbers
+pub mod Prefixes
+pub mod ListedKeys
+pub mod NodeLists
+pub mod WholeImage
+pub mod OneImage
