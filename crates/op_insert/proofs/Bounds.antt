@@ -28,7 +28,7 @@ use Rattle.block_taking.specs.Bound.{taking_verbs}
 use Rattle.block_taking.proofs.Bounds.{taking-within, taking-left}
 use Rattle.op_insert.specs.declared.end.InsertOutcome.TheVariants.{Inserted}
 use Rattle.op_insert.specs.declared.end.InsertEnd.{InsertEnd}
-use Rattle.op_insert.specs.Text.{Inserting, Part, Result, to_commit, exists_with, start_again, left_again, spent, no_block, need_room, pending_word, ended, ends_again, on_part, insert_from, parts_of, insert, look_of, sweep_of, choice_of, slot_in, after_loss, on_swept, after_sweep, place_block, on_taken, after_taking, take_and_place, choose_plain, on_parent_slot, on_parent_word, choose_filling, help_from, is_plain_at, help, choose_by_parent, on_looked, after_look, insert_part}
+use Rattle.op_insert.specs.Text.{Inserting, Part, Result, to_commit, exists_with, start_again, left_again, spent, no_block, need_room, pending_word, ended, ends_again, on_part, insert_from, parts_of, insert, look_of, sweep_of, choice_of, slot_in, after_loss, on_swept, after_sweep, place_block, on_taken, after_taking, take_and_place, on_parent_slot, on_parent_word, choose_filling, help_from, is_plain_at, help, choose_by_parent, choose_among, on_looked, after_look, insert_part}
 use Rattle.op_insert.specs.Bound.{part_verbs, insert_verbs}
 
 -- within so many acts, and then no more swaps may be lost than these
@@ -119,13 +119,6 @@ module _ (i : Inserting) (few : need i.taking ≤ 137) where
         Outcomes-bind (λ (e : TakeEnd). e.left ≤ left) (λ (part : Part). part.left ≤ left) (take_block i.taking area left) (after_taking i t own) (taking-left i.taking area left) (λ e le. (taken_bounded t own left e e.outcome le).1),
       )
 
-  plain_bounded : (p : Passed) (o kept : Option ℕ) (area : Area) (left : ℕ) → Bounded (take_most left) left (choose_plain i p o kept area left)
-  plain_bounded p None kept area left = (tt, same left)
-    where
-      same : (x : ℕ) → x ≤ x
-      same x = omega arith
-  plain_bounded p (Some x) kept area left = take_bounded p.table (slot_in i p.table x) kept area left
-
   parent_bounded : (n e left word : ℕ) (not_free good : Prog Part) → Bounded n left not_free → Bounded n left good → Bounded (138 + n) left (on_parent_word i e not_free good word)
   parent_bounded n e left word not_free good a b = either (138 + n) left (word == 0) good (on_parent_slot i e not_free good (slot_of word)) (λ v. more n (138 + n) left good (omega arith) b) (λ v. of (slot_of word))
     where
@@ -165,9 +158,19 @@ module _ (i : Inserting) (few : need i.taking ≤ 137) where
   abbrev choose_most : ℕ → ℕ
   choose_most left = 2 + 2 * i.job.geometry.groups + (28 * 139 + take_most left)
 
-  by_parent_bounded : (p : Passed) (o kept : Option ℕ) (area : Area) (left : ℕ) → Bounded (choose_most left) left (choose_by_parent i p o kept area left)
-  by_parent_bounded p None kept area left = more (take_most left) (choose_most left) left (choose_plain i p (choice_of i p.free) kept area left) (omega arith) (plain_bounded p (choice_of i p.free) kept area left)
-  by_parent_bounded p (Some u) kept area left = help_bounded i.job.geometry (address_of u) (p.head.depth - 1) (28 * 139 + take_most left) left _ (filling_bounded p (address_of u) 28 p.free (choice_of i p.free) kept area left)
+  taken_at_once : (p : Passed) (x : ℕ) (kept : Option ℕ) (area : Area) (left : ℕ) → Bounded (choose_most left) left (take_and_place i p.table (slot_in i p.table x) kept area left)
+  taken_at_once p x kept area left = more (take_most left) (choose_most left) left (take_and_place i p.table (slot_in i p.table x) kept area left) (omega arith) (take_bounded p.table (slot_in i p.table x) kept area left)
+
+  by_parent_bounded : (p : Passed) (x : ℕ) (o kept : Option ℕ) (area : Area) (left : ℕ) → Bounded (choose_most left) left (choose_by_parent i p x o kept area left)
+  by_parent_bounded p x None kept area left = taken_at_once p x kept area left
+  by_parent_bounded p x (Some u) kept area left = help_bounded i.job.geometry (address_of u) (p.head.depth - 1) (28 * 139 + take_most left) left _ (filling_bounded p (address_of u) 28 p.free (choice_of i p.free) kept area left)
+
+  among_bounded : (p : Passed) (o kept : Option ℕ) (area : Area) (left : ℕ) → Bounded (choose_most left) left (choose_among i p o kept area left)
+  among_bounded p None kept area left = (tt, same left)
+    where
+      same : (x : ℕ) → x ≤ x
+      same x = omega arith
+  among_bounded p (Some x) kept area left = either (choose_most left) left (is_filling p.head.state) (choose_by_parent i p x p.parent kept area left) (take_and_place i p.table (slot_in i p.table x) kept area left) (λ v. by_parent_bounded p x p.parent kept area left) (λ v. taken_at_once p x kept area left)
 
   looked_bounded : (kept : Option ℕ) (area : Area) (left : ℕ) (p : Passed) (e : PassEnd) → Bounded (choose_most left) left (on_looked i kept area left p e)
   looked_bounded kept area left p (Held h) = (tt, same left)
@@ -176,8 +179,7 @@ module _ (i : Inserting) (few : need i.taking ≤ 137) where
       same x = omega arith
   looked_bounded kept area left p Gone = (tt, omega arith)
   looked_bounded kept area left p Spent = (tt, omega arith)
-  looked_bounded kept area left p Clear = either (choose_most left) left (is_filling p.head.state) (choose_by_parent i p p.parent kept area left) (choose_plain i p (choice_of i p.free) kept area left) (λ v. by_parent_bounded p p.parent kept area left)
-      (λ v. more (take_most left) (choose_most left) left (choose_plain i p (choice_of i p.free) kept area left) (omega arith) (plain_bounded p (choice_of i p.free) kept area left))
+  looked_bounded kept area left p Clear = among_bounded p (choice_of i p.free) kept area left
 
   pub part_bounded : (start kept : Option ℕ) (area : Area) (left : ℕ) → left ≤ i.tries → Within (part_verbs i - 1) (insert_part i start kept area left) × Outcomes (λ (part : Part). part.left ≤ left) (insert_part i start kept area left)
   part_bounded start kept area left le =

@@ -1,11 +1,11 @@
--- A block for the chosen candidate, and the choice in a table that does not fill.
+-- A block for the chosen candidate, and its place.
 use Rattle.std.specs.Prelude.{◌≡◌, ℕ, zero, suc, ◌<◌, ◌≤◌, Bool, true, false, cond, nat_le, List, [], ◌∷◌, length, slice_index, Option, Some, None, ◌⊎◌, refl}
 use Rattle.std.proofs.Common.{inl, inr, arith, get_or}
 use Rattle.kv_block.specs.Packing.{Pair, IsPair, packed}
 use Rattle.kv_block.proofs.Packed.{packed_least, packed_most}
 use Rattle.bucket_group.specs.Buckets.{candidates}
-use Rattle.bucket_group.specs.Choice.{choice, is_free, first_combined, second_combined, first_free_of, taken_of}
-use Rattle.bucket_group.proofs.ChoiceLaws.{find-holds, first_within, second_within}
+use Rattle.bucket_group.specs.Choice.{choice}
+use Rattle.bucket_group.proofs.ChoiceLaws.{choice-free}
 use Rattle.bucket_group.proofs.CandidateLaws.{length-candidates_two}
 use Rattle.node_words.specs.Addresses.{slot_at}
 use Rattle.verb_log.specs.Tables.{Past, Before, here}
@@ -36,19 +36,10 @@ use Rattle.block_taking.specs.Law.{WasFull, TakenSo, HasTaken}
 use Rattle.block_taking.specs.Text.{take_block}
 use Rattle.block_taking.proofs.Own.{Quietly, quietly_holds}
 use Rattle.block_taking.proofs.Whole.{taking_safe}
-use Rattle.op_insert.specs.Text.{Inserting, Part, on_taken, after_taking, take_and_place, choose_plain, slot_in, choice_of}
-use Rattle.op_insert.specs.Law.{inserting_of, NoRoom}
+use Rattle.op_insert.specs.Text.{Inserting, Part, on_taken, after_taking, take_and_place, slot_in, choice_of}
+use Rattle.op_insert.specs.Law.{inserting_of}
 use Rattle.op_insert.proofs.PartEnds.{PartEnd, none_pending}
 use Rattle.op_insert.proofs.Placing.{place_safe}
-
--- a chosen candidate is one
-choice_below : (n : ℕ) (free : List Bool) (i : ℕ) → (n ≡ 21) ⊎ (n ≡ 28) → choice n free ≡ Some i → i < n
-unfolding choice
-choice_below n free i h e = by (nat_le (taken_of free first_combined) (taken_of free (second_combined n))) e
-  where
-    by : (v : Bool) → cond v (first_free_of free first_combined) (first_free_of free (second_combined n)) ≡ Some i → i < n
-    by true e = (find-holds (λ i. is_free free i) (λ i. i < n) first_combined i (first_within n h) e).1
-    by false e = (find-holds (λ i. is_free free i) (λ i. i < n) (second_combined n) i (second_within n h) e).1
 
 index_in : (xs : List ℕ) (i : ℕ) → i < length xs → IsIn (get_or xs i 0) xs
 index_in [] i h = absurd (omega arith)
@@ -56,7 +47,7 @@ index_in (x ∷ xs) zero h = inl refl
 index_in (x ∷ xs) (suc i) h = inr (index_in xs i (omega arith))
 
 pub chosen : (s : Setting) (key : List ℕ) (free : List Bool) (i : ℕ) → choice (length (candidates s.geometry.groups (hash s key))) free ≡ Some i → IsIn (slice_index (candidates s.geometry.groups (hash s key)) i) (places s key)
-chosen s key free i e = index_in (candidates s.geometry.groups (hash s key)) i (choice_below (length (candidates s.geometry.groups (hash s key))) free i (length-candidates_two s.geometry.groups (hash s key)) e)
+chosen s key free i e = index_in (candidates s.geometry.groups (hash s key)) i (choice-free (length (candidates s.geometry.groups (hash s key))) free i (length-candidates_two s.geometry.groups (hash s key)) e).1
 
 module _ (s : Setting) (c client : ℕ) (pair : Pair) (ip : IsPair pair) (tries most : ℕ) (from : Past) where
   abbrev i : Inserting
@@ -101,14 +92,10 @@ module _ (s : Setting) (c client : ℕ) (pair : Pair) (ip : IsPair pair) (tries 
       }
       taken e SpentTaking y h ow2 fw so = record { start = on_chain t (chain_before s h.1.0 h.0 (hash s pair.key) t ch); owns = ow2; kept = tt; so = tt; leaves = none_pending s c from y h.1.1; falls = tt }
 
-  -- the choice among the free candidates
-  pub choose_plain_safe : (r : Passed) (q : Past) → (choice_of i r.free ≡ None → NoRoom s i from q r) → (kept : Option ℕ) (area : Area) (left : ℕ) → Legal s q → OnChain s.geometry q (hash s pair.key) r.table → ((p : ℕ) → IsPlace s.geometry p → Ready s r.table p q) → Stayed s pair.key from q r.table → Before from q → Owns s c area q → KeptBlock s c (packed pair.key pair.value) kept area q → Placed_none q → 1 ≤ left → left ≤ most
-      → SafeIn s c q (choose_plain i r (choice_of i r.free) kept area left) End
+  -- a candidate that was chosen, of a table all of whose places are ready
+  pub take_chosen_safe : (r : Passed) (x : ℕ) (q : Past) → choice_of i r.free ≡ Some x → (kept : Option ℕ) (area : Area) (left : ℕ) → Legal s q → OnChain s.geometry q (hash s pair.key) r.table → ((p : ℕ) → IsPlace s.geometry p → Ready s r.table p q) → Stayed s pair.key from q r.table → Before from q → Owns s c area q → KeptBlock s c (packed pair.key pair.value) kept area q → Placed_none q → 1 ≤ left → left ≤ most
+      → SafeIn s c q (take_and_place i r.table (slot_in i r.table x) kept area left) End
   unfolding slot_in
-  choose_plain_safe r q nr kept area left l ch rd sd bf ow kb np lv le = by (choice_of i r.free) refl
-    where
-      by : (o : Option ℕ) → choice_of i r.free ≡ o → SafeIn s c q (choose_plain i r o kept area left) End
-      by None e = record { start = on_chain r.table ch; owns = ow; kept = kb; so = (nr e, refl, lv); leaves = none_pending s c from q np; falls = le }
-      by (Some x) e =
-          let cand = chosen s pair.key r.free x e in
-          take_and_place_safe r.table (slice_index (candidates s.geometry.groups (hash s pair.key)) x) cand kept area left q l ch (rd _ (candidate_place s pair.key _ cand)) sd bf ow kb np lv le
+  take_chosen_safe r x q e kept area left l ch rd sd bf ow kb np lv le =
+      let cand = chosen s pair.key r.free x e in
+      take_and_place_safe r.table (slice_index (candidates s.geometry.groups (hash s pair.key)) x) cand kept area left q l ch (rd _ (candidate_place s pair.key _ cand)) sd bf ow kb np lv le

@@ -5,7 +5,7 @@ use Rattle.verbs.specs.Programs.{outcome_of}
 use Rattle.op_insert.specs.declared.end.InsertEnd.{InsertEnd}
 use Rattle.op_insert.specs.declared.work.Work.{Work}
 use Rattle.op_insert.specs.declared.at.At.{At}
-use Rattle.op_insert.specs.declared.at.At.TheVariants.{Look, ParentHeader, Begin, Open, ParentSlot, ParentBlock, ParentHash, Take, Place, Sweep, WithdrawHeld, WithdrawGone, WithdrawSpent, Commit, Lost, Left, Inserted, Exists, NeedRoom, Again, NoBlock}
+use Rattle.op_insert.specs.declared.at.At.TheVariants.{Look, ParentHeader, Begin, Open, ParentSlot, ParentBlock, ParentHash, Take, Place, Sweep, WithdrawHeld, WithdrawGone, WithdrawSpent, Commit, Lost, Left, Inserted, Exists, NeedRoom, Again, NoBlock, Out}
 use Rattle.op_insert.specs.Rest.{area, at_rest, acts, lost_of}
 use Rattle.op_insert.specs.AtFits.{AtFits}
 use Rattle.op_insert.proofs.Onward.{act-outcome}
@@ -49,6 +49,7 @@ tells w Exists e h told = as_told w Exists _ e refl refl refl told
 tells w NeedRoom e h told = as_told w NeedRoom _ e refl refl refl told
 tells w Again e h told = as_told w Again _ e refl refl refl told
 tells w NoBlock e h told = as_told w NoBlock _ e refl refl refl told
+tells w Out e h told = as_told w Out _ e refl refl refl told
 
 pub lost-told : (w : Work) (at : At) (e : InsertEnd) → AtFits w at → outcome_of (at_rest w at) ≡ Some e → e.lost ≡ lost_of w at
 lost-told w at e h told = (tells w at e h told).lost

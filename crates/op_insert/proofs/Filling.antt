@@ -1,7 +1,7 @@
 -- The choice in a filling table.
-use Rattle.std.specs.Prelude.{◌≡◌, ℕ, zero, suc, ◌+◌, ◌-◌, ◌%◌, ◌^◌, ◌≤◌, ◌==◌, Bool, true, false, cond, nat_le, List, [], slice_index, slice_set, Option, Some, None, IsTrue, refl}
-use Rattle.std.proofs.Common.{sym, ◌∙◌, ap, subst, inl, inr, arith, le_refl}
-use Rattle.std.proofs.lemmas.Bool.{cond-false}
+use Rattle.std.specs.Prelude.{◌≡◌, ℕ, zero, suc, ◌+◌, ◌-◌, ◌%◌, ◌^◌, ◌<◌, ◌≤◌, ◌≢◌, ◌==◌, Bool, true, false, cond, nat_le, List, [], length, slice_index, slice_set, Option, Some, None, IsTrue, refl}
+use Rattle.std.proofs.Common.{sym, ◌∙◌, ap, subst, inl, inr, arith, le_refl, ⊎_elim}
+use Rattle.std.proofs.lemmas.Bool.{cond-false, cases_eq}
 use Rattle.std.proofs.lemmas.Bool.Decides.{nat_tests}
 use Rattle.slot_word.specs.declared.slots.Mark.{Mark}
 use Rattle.slot_word.specs.declared.slots.Slot.{Slot}
@@ -14,6 +14,9 @@ use Rattle.kv_block.proofs.Packed.{packed_of_unpacked, IsPair-from_unpacked}
 use Rattle.kv_block.proofs.ReadingLemmas.{block_key-packed}
 use Rattle.bucket_group.specs.ExitLevel.{exit_level}
 use Rattle.bucket_group.specs.Buckets.{candidates}
+use Rattle.bucket_group.specs.Choice.{is_free}
+use Rattle.bucket_group.proofs.ChoiceLaws.{choice-free, choice-none}
+use Rattle.bucket_group.proofs.CandidateLaws.{length-candidates_two}
 use Rattle.bucket_group.proofs.ExitLaws.{exit-below, exit_suffix}
 use Rattle.node_words.specs.Addresses.{slot_at}
 use Rattle.verb_log.specs.Decoded.{Body, Empty, Full, NoSlot, content, content_of, Header, PlainAt, SplittingAt, FillingAt, NoHeader, header_of}
@@ -63,11 +66,12 @@ use Rattle.pass_laws.proofs.TableAddress.{table_address}
 use Rattle.pass_laws.proofs.Rules.{by_cond}
 use Rattle.block_taking.specs.declared.taking.Area.{Area}
 use Rattle.block_taking.specs.Holdings.{Owns, KeptBlock}
-use Rattle.op_insert.specs.Text.{Inserting, Part, take_and_place, slot_in, choice_of, on_parent_slot, on_parent_word, choose_plain, choose_filling, help, choose_by_parent, choose}
-use Rattle.op_insert.specs.Law.{inserting_of, NoRoom}
+use Rattle.op_insert.specs.Text.{Inserting, Part, take_and_place, slot_in, choice_of, need_room, on_parent_slot, on_parent_word, choose_filling, help, choose_by_parent, choose_among, choose}
+use Rattle.op_insert.specs.Law.{inserting_of, LookedFrom, Occupied, NoRoom}
 use Rattle.op_insert.proofs.PartEnds.{PartEnd, none_pending}
 use Rattle.op_insert.proofs.Words.{equal, differ}
-use Rattle.op_insert.proofs.Choosing.{chosen, take_and_place_safe, choose_plain_safe}
+use Rattle.op_insert.proofs.Choosing.{chosen, take_and_place_safe, take_chosen_safe}
+use Rattle.op_insert.proofs.Frees.{frees, frees_most, frees_out, none_free, out_other}
 use Rattle.op_insert.proofs.Helping.{Steady, steady_since, steady_own, help_safe}
 
 -- with no place made since a position
@@ -92,8 +96,23 @@ looked_later s key r a b x = let w = x.clear.passed in record {
   free = x.free;
 }
 
-no_room_later : (s : Setting) (i : Inserting) (from : Past) {x y : Past} → Before x y → (r : Passed) → NoRoom s i from x r → NoRoom s i from y r
-no_room_later s i from b r n = record { looked = looked_later s i.job.key r here b n.looked; none_left = n.none_left }
+abbrev look_later : (s : Setting) (key : List ℕ) (from : Past) {x y : Past} → Before x y → (r : Passed) → LookedFrom s key from x r → LookedFrom s key from y r
+look_later s key from b r n = record { opened = n.opened; from_then = n.from_then; till = Before-trans n.till b; opened_head = n.opened_head; looked = looked_later s key r here b n.looked }
+
+-- all that a look has told since it opened the last table it has told since it began
+pub looked_from : (s : Setting) (key : List ℕ) (from q : Past) (r : Passed) → LookedFrom s key from q r → LookedAt s key from q r
+looked_from s key from q r n = looked_later s key r n.from_then here n.looked
+
+-- a part of an insert tells it of the whole
+pub room_since : (s : Setting) (i : Inserting) {p from : Past} (q : Past) (r : Passed) → Before p from → NoRoom s i from q r → NoRoom s i p q r
+room_since s i q r b n = record {
+  look = record { opened = n.look.opened; from_then = Before-trans b n.look.from_then; till = n.look.till; opened_head = n.look.opened_head; looked = n.look.looked };
+  occupied = n.occupied;
+}
+
+occupied_later : (s : Setting) (i : Inserting) (from : Past) {x y : Past} → Before x y → (r : Passed) (n : ℕ) → Occupied s i from x r n → Occupied s i from y r n
+occupied_later s i from b r n (inl e) = inl e
+occupied_later s i from b r n (inr o) = inr (record { fills = o.fills; parent = o.parent; is_parent = o.is_parent; at = o.at; from_then = o.from_then; till = Before-trans o.till b; mark = o.mark; body = o.body; pair = o.pair; word = o.word; leaves = o.leaves })
 
 -- where a look was clear, the key stayed
 abbrev pub looked_stayed : (s : Setting) (key : List ℕ) (from q : Past) → Legal s q → (r : Passed) → LookedAt s key from q r → Stayed s key from q r.table
@@ -184,9 +203,18 @@ module _ (s : Setting) (c client : ℕ) (pair : Pair) (ip : IsPair pair) (tries 
     chain_t : (z : Past) → Before q z → Legal s z → OnChain s.geometry z (hash s pair.key) t
     chain_t z bz lz = chain_before s bz lz (hash s pair.key) t (chains.goes_on u un.level t un.chain un.exits (subst (IsGone (header_in s.geometry q u)) (sym lev) gn) un.child un.some)
 
+    -- at the position z a word of a key that leaves stood in the parent's place
+    record Leaves (z : Past) (p : ℕ) (y : Past) : Type 0 where
+      till : Before z y
+      mark : Mark
+      body : Body
+      other : Pair
+      word : Word s.geometry z mark u p body other
+      leaves : hash s other.key % 2 ^ e ≡ hash s pair.key % 2 ^ e
+
     -- the parent's word is judged
     module _ (z : Past) (bz : Before q z) (lz : Legal s z) (hz : Have z) (p : ℕ) (pl : IsPlace s.geometry p) (w : ℕ) (wd : word_at s.geometry z (slot_at u p) ≡ w) (not_free good : Prog Part)
-        (ls : (y : Past) → Legal s y → Before q y → Have y → SafeIn s c y not_free End) (gs : (y : Past) → Legal s y → Before q y → Have y → Ready s t p y → SafeIn s c y good End) where
+        (ls : (y : Past) → Legal s y → Before q y → Have y → Leaves z p y → SafeIn s c y not_free End) (gs : (y : Past) → Legal s y → Before q y → Have y → Ready s t p y → SafeIn s c y good End) where
       -- no block is named there
       bare : ((m : Mark) (b : Body) → content w ≡ Full m b → ⊥) → SafeIn s c z good End
       bare none = gs z lz bz hz (ready_by z z bz here lz p (clear_by z bz lz p pl (λ m b x wo ex. none m b (sym (ap content wd) ∙ wo.stands))))
@@ -201,7 +229,14 @@ module _ (s : Setting) (c client : ℕ) (pair : Pair) (ip : IsPair pair) (tries 
           let by2 = since_before sy in let bq = Before-trans bz by2 in
           let hy = steady_since s c Have have sy ly hz in
           by_cond Calmly s c End y (hash s (block_key (words_at s.geometry z b.at b.length)) % 2 ^ e == hash s pair.key % 2 ^ e) not_free good
-          (λ v. ls y ly bq hy)
+          (λ v. ls y ly bq hy (record {
+            till = by2;
+            mark = x.mark;
+            body = b;
+            other = nm.pair;
+            word = record { stands = st; packs = nm.packs };
+            leaves = ap (λ k. hash s k % 2 ^ e) (sym (key_told (words_at s.geometry z b.at b.length) nm.pair (pair_unpacked s.geometry z b nm.pair nm.packs))) ∙ equal (hash s (block_key (words_at s.geometry z b.at b.length)) % 2 ^ e) (hash s pair.key % 2 ^ e) v;
+          }))
           (λ v. gs y ly bq hy (ready_by z y bz by2 ly p (clear_by z bz lz p pl (λ m2 b2 o wo ex. differ (hash s (block_key (words_at s.geometry z b.at b.length)) % 2 ^ e) (hash s pair.key % 2 ^ e)
           (ap (λ k. hash s k % 2 ^ e) (key_told (words_at s.geometry z b.at b.length) nm.pair (pair_unpacked s.geometry z b nm.pair nm.packs) ∙ ap (λ (k : Pair). k.key) (one nm.packs (ap (pair_at s.geometry z) (full_same x.mark m2 b b2 (sym st ∙ wo.stands)) ∙ wo.packs)))
           ∙ same_suffix z bz lz p pl m2 b2 o wo ex) v))))) here lz)
@@ -239,30 +274,69 @@ module _ (s : Setting) (c client : ℕ) (pair : Pair) (ip : IsPair pair) (tries 
           by true ez = bare (λ m b h. empty_none m b (sym (zero_says w ez) ∙ h))
           by false ez = of (slot_of w) refl ez
 
-    -- the candidates in their order of choice
-    filling_safe : (r : Passed) → r.table ≡ t → r.head.depth ≡ e → NoRoom s i from q r → (n : ℕ) (free : List Bool) (o : Option ℕ) → choice_of i free ≡ o → (left : ℕ) → 1 ≤ left → left ≤ most → (z : Past) → Before q z → Legal s z → Have z → SafeIn s c z (choose_filling i r u n free o kept area left) End
-    unfolding slot_in
-    filling_safe r rt rd nr zero free o ch left lv le z bz lz hz = record { start = on_chain r.table (subst (OnChain s.geometry z (hash s pair.key)) (sym rt) (chain_t z bz lz)); owns = hz.0; kept = hz.1; so = (no_room_later s i from bz r nr, refl, lv); leaves = none_pending s c from z hz.2; falls = le }
-    filling_safe r rt rd nr (suc n) free None ch left lv le z bz lz hz = record { start = on_chain r.table (subst (OnChain s.geometry z (hash s pair.key)) (sym rt) (chain_t z bz lz)); owns = hz.0; kept = hz.1; so = (no_room_later s i from bz r nr, refl, lv); leaves = none_pending s c from z hz.2; falls = le }
-    filling_safe r rt rd nr (suc n) free (Some x) ch left lv le z bz lz hz =
-        let cand = chosen s pair.key free x ch in
-        let p = slice_index (candidates s.geometry.groups (hash s pair.key)) x in
-        let pl = candidate_place s pair.key p cand in (
-          slot_within s z lz u p (table_before s.geometry bz u u tb) pl,
-          λ y ly sy.
-              let by2 = Before-trans bz (since_before sy) in
-              subst (λ v. SafeIn s c y (on_parent_word i v (choose_filling i r u n (slice_set free x false) (choice_of i (slice_set free x false)) kept area left) (take_and_place i r.table (slot_at r.table p) kept area left) (word_at s.geometry y (slot_at u p))) End) (sym rd)
-              (word_safe y by2 ly (steady_since s c Have have sy ly hz) p pl (word_at s.geometry y (slot_at u p)) refl
-              (choose_filling i r u n (slice_set free x false) (choice_of i (slice_set free x false)) kept area left)
-              (take_and_place i r.table (slot_at r.table p) kept area left)
-              (λ w lw bw hw. filling_safe r rt rd nr n (slice_set free x false) (choice_of i (slice_set free x false)) refl left lv le w bw lw hw)
-              (λ w lw bw hw rdy. take_and_place_safe s c client pair ip tries most from r.table p cand kept area left w lw (subst (OnChain s.geometry w (hash s pair.key)) (sym rt) (chain_t w bw lw)) (subst (λ v. Ready s v p w) (sym rt) rdy)
-              (stayed_later s pair.key from bw r.table (looked_stayed s pair.key from q l r nr.looked)) (Before-trans bf bw) hw.0 hw.1 hw.2 lv le)),
-        )
+    -- the look that began the choice
+    module _ (r : Passed) (rt : r.table ≡ t) (rd : r.head.depth ≡ e) (rp : r.parent ≡ Some u) (fills : IsTrue (is_filling r.head.state)) (lk : LookedFrom s pair.key from q r) (left : ℕ) (lv : 1 ≤ left) (le : left ≤ most) where
+      abbrev many : ℕ
+      many = length (candidates s.geometry.groups (hash s pair.key))
+
+      -- each candidate that is no more free is occupied
+      abbrev Outs : List Bool → Past → Type 0
+      Outs free z = (x : ℕ) → x < many → is_free free x ≡ false → Occupied s i lk.opened z r x
+
+      -- none is free
+      no_room : (z : Past) → Before q z → Legal s z → Have z → ((x : ℕ) → x < many → Occupied s i lk.opened z r x) → End z (record { result = need_room r; table = r.table; kept = kept; area = area; left = left })
+      no_room z bz lz hz occ = record {
+        start = on_chain r.table (subst (OnChain s.geometry z (hash s pair.key)) (sym rt) (chain_t z bz lz));
+        owns = hz.0;
+        kept = hz.1;
+        so = (record { look = look_later s pair.key from bz r lk; occupied = occ }, refl, lv);
+        leaves = none_pending s c from z hz.2;
+        falls = le;
+      }
+
+      -- one candidate more is left out
+      out_more : (free : List Bool) (x : ℕ) (z y w : Past) → Before q z → Before z y → Outs free z → Leaves y (slice_index (candidates s.geometry.groups (hash s pair.key)) x) w → Outs (slice_set free x false) w
+      out_more free x z y w bz by2 outs v n low f = ⊎_elim (λ (same : n ≡ x). inr (record {
+        fills = fills;
+        parent = u;
+        is_parent = rp;
+        at = y;
+        from_then = Before-trans lk.till (Before-trans bz by2);
+        till = v.till;
+        mark = v.mark;
+        body = v.body;
+        pair = v.other;
+        word = subst (λ j. Word s.geometry y v.mark u (slice_index (candidates s.geometry.groups (hash s pair.key)) j) v.body v.other) (sym same) v.word;
+        leaves = subst (λ j. hash s v.other.key % 2 ^ j ≡ hash s pair.key % 2 ^ j) (sym rd) v.leaves;
+      })) (λ (other : n ≢ x). occupied_later s i lk.opened (Before-trans by2 v.till) r n (outs n low (sym (out_other free x n other) ∙ f))) (cases_eq n x)
+
+      -- the candidates in their order of choice
+      filling_safe : (n : ℕ) (free : List Bool) (o : Option ℕ) → choice_of i free ≡ o → frees free many ≤ n → (z : Past) → Before q z → Legal s z → Have z → Outs free z → SafeIn s c z (choose_filling i r u n free o kept area left) End
+      unfolding slot_in
+      filling_safe zero free o ch few z bz lz hz outs = no_room z bz lz hz (λ x low. outs x low (none_free free many x few low))
+      filling_safe (suc n) free None ch few z bz lz hz outs = no_room z bz lz hz (λ x low. outs x low (choice-none many free x (length-candidates_two s.geometry.groups (hash s pair.key)) ch low))
+      filling_safe (suc n) free (Some x) ch few z bz lz hz outs =
+          let cand = chosen s pair.key free x ch in
+          let p = slice_index (candidates s.geometry.groups (hash s pair.key)) x in
+          let pl = candidate_place s pair.key p cand in
+          let is = choice-free many free x (length-candidates_two s.geometry.groups (hash s pair.key)) ch in
+          let less = frees_out free x many is.0 is.1 in
+          let few2 : frees (slice_set free x false) many ≤ n = omega arith in (
+            slot_within s z lz u p (table_before s.geometry bz u u tb) pl,
+            λ y ly sy.
+                let by2 = Before-trans bz (since_before sy) in
+                subst (λ v. SafeIn s c y (on_parent_word i v (choose_filling i r u n (slice_set free x false) (choice_of i (slice_set free x false)) kept area left) (take_and_place i r.table (slot_at r.table p) kept area left) (word_at s.geometry y (slot_at u p))) End) (sym rd)
+                (word_safe y by2 ly (steady_since s c Have have sy ly hz) p pl (word_at s.geometry y (slot_at u p)) refl
+                (choose_filling i r u n (slice_set free x false) (choice_of i (slice_set free x false)) kept area left)
+                (take_and_place i r.table (slot_at r.table p) kept area left)
+                (λ w lw bw hw v. filling_safe n (slice_set free x false) (choice_of i (slice_set free x false)) refl few2 w bw lw hw (out_more free x z y w bz (since_before sy) outs v))
+                (λ w lw bw hw rdy. take_and_place_safe s c client pair ip tries most from r.table p cand kept area left w lw (subst (OnChain s.geometry w (hash s pair.key)) (sym rt) (chain_t w bw lw)) (subst (λ v. Ready s v p w) (sym rt) rdy)
+                (stayed_later s pair.key from bw r.table (looked_stayed s pair.key from q l r (looked_from s pair.key from q r lk))) (Before-trans bf bw) hw.0 hw.1 hw.2 lv le)),
+          )
 
   -- by the last header of the look
-  pub choose_safe : (r : Passed) (left : ℕ) → 1 ≤ left → left ≤ most → (q : Past) → Legal s q → Before from q → Have q → Start s.geometry q (hash s pair.key) r.table → LookedAt s pair.key from q r → SafeIn s c q (choose i r kept area left) End
-  choose_safe r left lv le q l bf hq st x = by_state r.head.state refl
+  pub choose_safe : (r : Passed) (left : ℕ) → 1 ≤ left → left ≤ most → (q : Past) → Legal s q → Before from q → Have q → Start s.geometry q (hash s pair.key) r.table → LookedFrom s pair.key from q r → LookedAt s pair.key from q r → SafeIn s c q (choose i r kept area left) End
+  choose_safe r left lv le q l bf hq st lk x = among (choice_of i r.free) refl
     where
       w : PassedBy InOrder s q from pair.key None
       w = x.clear.passed
@@ -285,24 +359,24 @@ module _ (s : Setting) (c client : ℕ) (pair : Pair) (ip : IsPair pair) (tries 
       table_at_end : IsTable s.geometry w.end r.table
       table_at_end = subst (IsTable s.geometry w.end) x.clear.table (start_table s w.end le2 (hash s pair.key) w.table start_at_end)
 
-      plain : (IsFilling (key_header s q r.table pair.key) → ⊥) → SafeIn s c q (choose_plain i r (choice_of i r.free) kept area left) End
-      plain f = let y = by_last s pair.key q l r.table st f in choose_plain_safe s c client pair ip tries most from r q (λ e. record { looked = x; none_left = inl e }) kept area left l y.0 y.1 stayed bf hq.0 hq.1 hq.2 lv le
+      plain : (n : ℕ) → choice_of i r.free ≡ Some n → (IsFilling (key_header s q r.table pair.key) → ⊥) → SafeIn s c q (take_and_place i r.table (slot_in i r.table n) kept area left) End
+      plain n ch f = let y = by_last s pair.key q l r.table st f in take_chosen_safe s c client pair ip tries most from r n q ch kept area left l y.0 y.1 stayed bf hq.0 hq.1 hq.2 lv le
 
       ripe : (h : Header) → header_of (Some r.head) ≡ h → (IsFilling h → ⊥) → IsFilling (key_header s q r.table pair.key) → ⊥
       ripe h e f = last_ripe s pair.key w.up_to l r.table table_at_end (λ y. f (subst IsFilling (x.clear.head ∙ e) y))
 
       -- the first table that was searched did not fill
-      alone : searched_before w.prev ≡ None → SafeIn s c q (choose_plain i r (choice_of i r.free) kept area left) End
-      alone e =
+      alone : (n : ℕ) → choice_of i r.free ≡ Some n → searched_before w.prev ≡ None → SafeIn s c q (take_and_place i r.table (slot_in i r.table n) kept area left) End
+      alone n ch e =
           let f = passing_first s pair.key None from w.prev w.table w.since w.passing e in
           let b2 = Before-trans since_end w.up_to in
           let ch0 = subst (OnChain s.geometry w.since (hash s pair.key)) x.clear.table f.0 in
           let rp = subst (λ v. IsFilling (header_in s.geometry w.since v) → ⊥) x.clear.table f.1 in
           let rr = ripe_before s b2 l r.table (chain_table s w.since ls (hash s pair.key) r.table ch0) rp in
-          choose_plain_safe s c client pair ip tries most from r q (λ e2. record { looked = x; none_left = inl e2 }) kept area left l (chain_before s b2 l (hash s pair.key) r.table ch0) (λ p pl. inl rr) stayed bf hq.0 hq.1 hq.2 lv le
+          take_chosen_safe s c client pair ip tries most from r n q ch kept area left l (chain_before s b2 l (hash s pair.key) r.table ch0) (λ p pl. inl rr) stayed bf hq.0 hq.1 hq.2 lv le
 
-      filling : (u : ℕ) → searched_before w.prev ≡ Some u → header_of (Some r.head) ≡ FillingAt r.head.depth → IsTrue (is_filling r.head.state) → SafeIn s c q (choose_by_parent i r (Some u) kept area left) End
-      filling u e k fill =
+      filling : (n u : ℕ) → searched_before w.prev ≡ Some u → header_of (Some r.head) ≡ FillingAt r.head.depth → IsTrue (is_filling r.head.state) → SafeIn s c q (choose_by_parent i r n (Some u) kept area left) End
+      filling n u e k fill =
           let b2 = Before-trans since_end w.up_to in
           let un0 = passing_under s pair.key None from w.prev w.table w.since ls w.passing u e in
           let un1 = subst (Under s pair.key w.since u) x.clear.table un0 in
@@ -322,21 +396,35 @@ module _ (s : Setting) (c client : ℕ) (pair : Pair) (ip : IsPair pair) (tries 
           (help_safe s c u (r.head.depth - 1) (omega arith) End (λ z. Before q z × Have z)
           (record { others = λ y en ly o hh. (later hh.0, have.others y en ly o hh.1); elsewhere = λ y en ly si ro hh. (later hh.0, have.elsewhere y en ly si ro hh.1) })
           (choose_filling i r u 28 r.free (choice_of i r.free) kept area left)
-          (λ z lz hz lk gn. let uz = under_before s pair.key hz.0 lz u r.table un in
-          filling_safe z lz u r.table r.head.depth (r.head.depth - 1) uz.0 (uz.1 ∙ d) (omega arith) gn (Before-trans bf hz.0) r refl refl (no_room_later s i from hz.0 r (record { looked = x; none_left = inr fill })) 28 r.free (choice_of i r.free) refl left lv le z here lz hz.1)
+          (λ z lz hz linked gn. let uz = under_before s pair.key hz.0 lz u r.table un in
+          filling_safe z lz u r.table r.head.depth (r.head.depth - 1) uz.0 (uz.1 ∙ d) (omega arith) gn (Before-trans bf hz.0) r refl refl (sym x.clear.parent ∙ e) fill (look_later s pair.key from hz.0 r lk) left lv le 28 r.free (choice_of i r.free) refl free_most z here lz hz.1 (λ m low f. inl f))
           q l (here, hq) (tb, λ z. un.some (sym un.child ∙ ap (child_in s.geometry q u) d ∙ z)))
         where
+          free_most : frees r.free (length (candidates s.geometry.groups (hash s pair.key))) ≤ 28
+          free_most = let a = frees_most r.free (length (candidates s.geometry.groups (hash s pair.key))) in ⊎_elim (λ (k : length (candidates s.geometry.groups (hash s pair.key)) ≡ 21). omega arith) (λ (k : length (candidates s.geometry.groups (hash s pair.key)) ≡ 28). omega arith) (length-candidates_two s.geometry.groups (hash s pair.key))
+
           help_then : ℕ → Prog Part
           help_then v = help s.geometry v (r.head.depth - 1) (choose_filling i r v 28 r.free (choice_of i r.free) kept area left)
 
-      by_parent : (o : Option ℕ) → searched_before w.prev ≡ o → header_of (Some r.head) ≡ FillingAt r.head.depth → IsTrue (is_filling r.head.state) → SafeIn s c q (choose_by_parent i r o kept area left) End
-      by_parent None e k fill = alone e
-      by_parent (Some u) e k fill = filling u e k fill
+      by_parent : (n : ℕ) → choice_of i r.free ≡ Some n → (o : Option ℕ) → searched_before w.prev ≡ o → header_of (Some r.head) ≡ FillingAt r.head.depth → IsTrue (is_filling r.head.state) → SafeIn s c q (choose_by_parent i r n o kept area left) End
+      by_parent n ch None e k fill = alone n ch e
+      by_parent n ch (Some u) e k fill = filling n u e k fill
 
       head_is : (st : State) → r.head.state ≡ st → header_of (Some r.head) ≡ header_of (Some (record { depth = r.head.depth; state = st }))
       head_is st e = ap (λ v. header_of (Some (record { depth = r.head.depth; state = v }))) e
 
-      by_state : (st : State) → r.head.state ≡ st → SafeIn s c q (choose i r kept area left) End
-      by_state Plain e = subst (λ v. SafeIn s c q (cond (is_filling v) (choose_by_parent i r r.parent kept area left) (choose_plain i r (choice_of i r.free) kept area left)) End) (sym e) (plain (ripe (PlainAt r.head.depth) (head_is Plain e) (λ v. v)))
-      by_state Splitting e = subst (λ v. SafeIn s c q (cond (is_filling v) (choose_by_parent i r r.parent kept area left) (choose_plain i r (choice_of i r.free) kept area left)) End) (sym e) (plain (ripe (SplittingAt r.head.depth) (head_is Splitting e) (λ v. v)))
-      by_state Filling e = subst (λ v. SafeIn s c q (cond (is_filling v) (choose_by_parent i r r.parent kept area left) (choose_plain i r (choice_of i r.free) kept area left)) End) (sym e) (by_parent r.parent x.clear.parent (head_is Filling e) (subst (λ v. IsTrue (is_filling v)) (sym e) refl))
+      by_state : (n : ℕ) → choice_of i r.free ≡ Some n → (st : State) → r.head.state ≡ st → SafeIn s c q (choose_among i r (Some n) kept area left) End
+      by_state n ch Plain e = subst (λ v. SafeIn s c q (cond (is_filling v) (choose_by_parent i r n r.parent kept area left) (take_and_place i r.table (slot_in i r.table n) kept area left)) End) (sym e) (plain n ch (ripe (PlainAt r.head.depth) (head_is Plain e) (λ v. v)))
+      by_state n ch Splitting e = subst (λ v. SafeIn s c q (cond (is_filling v) (choose_by_parent i r n r.parent kept area left) (take_and_place i r.table (slot_in i r.table n) kept area left)) End) (sym e) (plain n ch (ripe (SplittingAt r.head.depth) (head_is Splitting e) (λ v. v)))
+      by_state n ch Filling e = subst (λ v. SafeIn s c q (cond (is_filling v) (choose_by_parent i r n r.parent kept area left) (take_and_place i r.table (slot_in i r.table n) kept area left)) End) (sym e) (by_parent n ch r.parent x.clear.parent (head_is Filling e) (subst (λ v. IsTrue (is_filling v)) (sym e) refl))
+
+      among : (o : Option ℕ) → choice_of i r.free ≡ o → SafeIn s c q (choose_among i r o kept area left) End
+      among None ch = record {
+        start = st;
+        owns = hq.0;
+        kept = hq.1;
+        so = (record { look = lk; occupied = λ m low. inl (choice-none (length (candidates s.geometry.groups (hash s pair.key))) r.free m (length-candidates_two s.geometry.groups (hash s pair.key)) ch low) }, refl, lv);
+        leaves = none_pending s c from q hq.2;
+        falls = le;
+      }
+      among (Some n) ch = by_state n ch r.head.state refl

@@ -4,7 +4,8 @@ pub mod Words
 mod Placing
 mod Choosing
 mod Helping
-mod Filling
+pub mod Filling
+mod Frees
 pub mod Parts
 pub mod Committing
 pub mod Bounds

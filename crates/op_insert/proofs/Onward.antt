@@ -12,7 +12,7 @@ use Rattle.op_insert.specs.declared.end.InsertEnd.{InsertEnd}
 use Rattle.op_insert.specs.declared.end.InsertOutcome.TheVariants.{Again as AgainEnd}
 use Rattle.op_insert.specs.declared.work.Work.{Work}
 use Rattle.op_insert.specs.declared.at.At.{At}
-use Rattle.op_insert.specs.declared.at.At.TheVariants.{Look, ParentHeader, Begin, Open, ParentSlot, ParentBlock, ParentHash, Take, Place, Sweep, WithdrawHeld, WithdrawGone, WithdrawSpent, Commit, Lost, Left, Inserted, Exists, NeedRoom, Again, NoBlock}
+use Rattle.op_insert.specs.declared.at.At.TheVariants.{Look, ParentHeader, Begin, Open, ParentSlot, ParentBlock, ParentHash, Take, Place, Sweep, WithdrawHeld, WithdrawGone, WithdrawSpent, Commit, Lost, Left, Inserted, Exists, NeedRoom, Again, NoBlock, Out}
 use Rattle.op_insert.specs.Text.{Inserting, Part, look_of, after_look, after_sweep, after_taking, insert_from, insert}
 use Rattle.op_insert.specs.Rest.{inserting, area, part_rest, next_part, at_rest, acts, Same}
 use Rattle.op_insert.specs.AtFits.{PartFits, AtFits}
@@ -40,6 +40,7 @@ waits w Exists e h = absurd (cc)
 waits w NeedRoom e h = absurd (cc)
 waits w Again e h = absurd (cc)
 waits w NoBlock e h = absurd (cc)
+waits w Out e h = absurd (cc)
 
 rest_is : (w : Work) (at : At) → acts at ≡ true → at_rest w at ≡ bind (part_rest w at) (next_part (inserting w) w.numbers.parts)
 rest_is w Look e = refl
@@ -63,6 +64,7 @@ rest_is w Exists e = absurd (cc)
 rest_is w NeedRoom e = absurd (cc)
 rest_is w Again e = absurd (cc)
 rest_is w NoBlock e = absurd (cc)
+rest_is w Out e = absurd (cc)
 
 -- it fits
 pub fits-part : (w : Work) (at : At) → acts at ≡ true → AtFits w at → PartFits w at
@@ -87,6 +89,7 @@ fits-part w Exists e h = absurd (cc)
 fits-part w NeedRoom e h = absurd (cc)
 fits-part w Again e h = absurd (cc)
 fits-part w NoBlock e h = absurd (cc)
+fits-part w Out e h = absurd (cc)
 
 pub fits-at : (w : Work) (at : At) → at ≢ Lost → at ≢ Left → PartFits w at → AtFits w at
 fits-at w Look a b h = h
@@ -110,6 +113,7 @@ fits-at w Exists a b h = h
 fits-at w NeedRoom a b h = h
 fits-at w Again a b h = h
 fits-at w NoBlock a b h = h
+fits-at w Out a b h = tt
 
 module _ (w : Work) (at : At) (e : acts at ≡ true) (h : AtFits w at) where
   abbrev f : Part → Prog InsertEnd
@@ -156,13 +160,14 @@ rest-at w Exists h = refl
 rest-at w NeedRoom h = refl
 rest-at w Again h = refl
 rest-at w NoBlock h = refl
+rest-at w Out h = absurd h
 
 pub rest-fed : (w v : Work) (at b : At) (answer : ℕ) → acts at ≡ true → AtFits w at → PartFits v b → Same w v → part_rest v b ≡ after (part_rest w at) answer → at_rest v b ≡ after (at_rest w at) answer
 rest-fed w v at b answer e h k s g =
     rest-at v b k ∙ ap (λ i. bind (part_rest v b) (next_part i v.numbers.parts)) s.0 ∙ ap (λ n. bind (part_rest v b) (next_part (inserting w) n)) s.1 ∙ act-after w at e h answer (part_rest v b) g
 
 -- how often it may start again
-pub insert-none : (i : Inserting) (n t : ℕ) (kept : Option ℕ) (area : Area) (left : ℕ) → n ≡ 0 → insert_from i n (Some t) kept area left ≡ ret (record { outcome = AgainEnd; table = t; area = area; lost = i.tries })
+pub insert-none : (i : Inserting) (n t : ℕ) (kept : Option ℕ) (area : Area) (left : ℕ) → n ≡ 0 → insert_from i n (Some t) kept area left ≡ ret (record { outcome = AgainEnd; table = t; area = area; lost = i.tries - left })
 unfolding insert_from
 insert-none i n t kept area left e = rw e refl
 

@@ -44,7 +44,7 @@ use Rattle.op_insert.proofs.Parts.{part_safe}
 use Rattle.op_insert.proofs.Committing.{commit_table, commit_meets, commit_kind, commit_change, commit_absent, commit_owns}
 use Rattle.op_insert.proofs.Withdrawn.{none_both}
 use Rattle.op_insert.proofs.Bounds.{part_bounded}
-use Rattle.op_insert.proofs.Filling.{looked_later}
+use Rattle.op_insert.proofs.Filling.{room_since}
 
 -- the log at the end of a part is legal, and behind that at its beginning
 legal_kept : (s : Setting) (c : ℕ) (from : Past) → Holds Calmly s c (λ q. Legal s q × Before from q)
@@ -171,7 +171,7 @@ module _ (s : Setting) (c client : ℕ) (pair : Pair) (ip : IsPair pair) (tries 
     end_safe part (need_room p) m d lm bm st ow kb so lv fb same = record {
       start = st;
       owns = ow;
-      so = (record { looked = looked_later s pair.key p b0.since here so.0.looked; none_left = so.0.none_left }, so.1, kb, lost_few part.left so.2);
+      so = (room_since s i (reverse m) p b0.since so.0, so.1, kb, lost_few part.left so.2);
       stays = (same, none_now m lm bm lv);
     }
       where

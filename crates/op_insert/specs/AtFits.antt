@@ -7,7 +7,7 @@ use Rattle.scan_pass.specs.Rest.{pass_rest}
 use Rattle.block_taking.specs.Rest.{take_rest}
 use Rattle.op_insert.specs.declared.work.Work.{Work}
 use Rattle.op_insert.specs.declared.at.At.{At}
-use Rattle.op_insert.specs.declared.at.At.TheVariants.{Look, ParentHeader, Begin, Open, ParentSlot, ParentBlock, ParentHash, Take, Place, Sweep, WithdrawHeld, WithdrawGone, WithdrawSpent, Commit, Lost, Left, Inserted, Exists, NeedRoom, Again, NoBlock}
+use Rattle.op_insert.specs.declared.at.At.TheVariants.{Look, ParentHeader, Begin, Open, ParentSlot, ParentBlock, ParentHash, Take, Place, Sweep, WithdrawHeld, WithdrawGone, WithdrawSpent, Commit, Lost, Left, Inserted, Exists, NeedRoom, Again, NoBlock, Out}
 use Rattle.op_insert.specs.Looking.{IsClear}
 use Rattle.op_insert.specs.Text.{places_of}
 use Rattle.op_insert.specs.Rest.{inserting}
@@ -42,12 +42,14 @@ PartFits w Exists = IsTrue (is_held w.pass.at)
 PartFits w NeedRoom = IsClear w.pass.at
 PartFits w Again = Unit {0}
 PartFits w NoBlock = Unit {0}
+PartFits w Out = ⊥
 
 -- a machine rests where an act is left, or where the insert has ended: no part has ended to start again
 abbrev pub AtFits : Work → At → Type 0
 AtFits w Lost = ⊥
 AtFits w Left = ⊥
 AtFits w Inserted = Unit {0}
+AtFits w Out = Unit {0}
 AtFits w at = PartFits w at
 
 pub AtFits-prop : (w : Work) (at : At) → IsProp (AtFits w at)
@@ -72,3 +74,4 @@ AtFits-prop w Exists = Prim.hlevel props
 AtFits-prop w NeedRoom = Prim.hlevel props
 AtFits-prop w Again = Prim.hlevel props
 AtFits-prop w NoBlock = Prim.hlevel props
+AtFits-prop w Out = Prim.hlevel props

@@ -1,17 +1,22 @@
 -- What is proved of an insert.
-use Rattle.std.specs.Prelude.{◌≡◌, ◌≢◌, ℕ, ◌<◌, ◌≤◌, IsTrue, List, [], ◌∷◌, ◌++◌, reverse, length, slice_index, Option, Some, None, ◌⊎◌}
+use Rattle.std.specs.Prelude.{◌≡◌, ◌≢◌, ℕ, ◌<◌, ◌≤◌, ◌%◌, ◌^◌, false, IsTrue, List, [], ◌∷◌, ◌++◌, reverse, length, slice_index, Option, Some, None, ◌⊎◌}
 use Rattle.std.specs.FinMap.{get}
 use Rattle.kv_block.specs.declared.changes.Change.{Change}
 use Rattle.kv_block.specs.Packing.{Pair, IsPair, packed}
 use Rattle.map_model.specs.Machine.{map_at}
+use Rattle.slot_word.specs.declared.slots.Mark.{Mark}
+use Rattle.slot_word.specs.declared.heads.Head.{Head}
+use Rattle.bucket_group.specs.Choice.{is_free}
 use Rattle.verb_log.specs.declared.entry.Entry.{Entry}
 use Rattle.verb_log.specs.declared.kind.Kind.TheVariants.{Place, Commit}
 use Rattle.verb_log.specs.Tables.{Past, Before, word_at}
 use Rattle.verb_log.specs.Kinds.{kind}
+use Rattle.verb_log.specs.Decoded.{Body, header_of}
 use Rattle.verbs.specs.Logs.{Entries}
 use Rattle.verbs.specs.Programs.{Prog}
 use Rattle.race_laws.specs.Setting.{Setting, hash}
 use Rattle.race_laws.specs.Legal.{IsLegal}
+use Rattle.race_laws.specs.Standing.{header_in, Word}
 use Rattle.log_facts.specs.Start.{Start}
 use Rattle.log_facts.specs.Among.{changes_of}
 use Rattle.pass_text.specs.declared.job.PassMode.TheVariants.{Look}
@@ -27,7 +32,7 @@ use Rattle.block_taking.specs.Text.{need}
 use Rattle.op_insert.specs.declared.end.InsertOutcome.{InsertOutcome}
 use Rattle.op_insert.specs.declared.end.InsertOutcome.TheVariants.{Inserted, Exists, NeedRoom, Again, NoBlock}
 use Rattle.op_insert.specs.declared.end.InsertEnd.{InsertEnd}
-use Rattle.op_insert.specs.Text.{Inserting, live_word, choice_of, insert}
+use Rattle.op_insert.specs.Text.{Inserting, live_word, places_of, insert}
 use Rattle.op_insert.specs.Bound.{insert_verbs}
 
 -- what the insert of a pair is started with, with these sizes and hashes: the client that tries the nodes, and the swaps that may be lost
@@ -42,10 +47,37 @@ inserting_of s client pair tries = record {
 abbrev pub NonePending : Setting → ℕ → Past → Past → Type 0
 NonePending s c from q = (e : Entry) (x : Past) → Before (e ∷ x) q → Before from x → e.client ≡ c → kind s.geometry x e ≡ Some Place → word_at s.geometry q e.at ≢ e.new
 
--- a look of the insert has ended as Clear, and no candidate was left: none was read as 0, or the last header was filling
+-- A look has ended as Clear. A header of the last table that it opened there with, where one is told, was read at the position
+-- `opened`, and all else that it tells after that.
+pub record LookedFrom (s : Setting) (key : List ℕ) (from q : Past) (p : Passed) : Type 0 where
+  pub opened : Past
+  pub from_then : Before from opened
+  pub till : Before opened q
+  pub opened_head : (h : Head) → p.opened ≡ Some h → header_in s.geometry opened p.table ≡ header_of (Some h)
+  pub looked : LookedAt s key opened q p
+
+-- candidate number x of a table that fills is left out: in the same place of its parent stood a word of a key that leaves for it
+pub record LeftOut (s : Setting) (i : Inserting) (from q : Past) (p : Passed) (x : ℕ) : Type 0 where
+  pub fills : IsTrue (is_filling p.head.state)
+  pub parent : ℕ
+  pub is_parent : p.parent ≡ Some parent
+  pub at : Past
+  pub from_then : Before from at
+  pub till : Before at q
+  pub mark : Mark
+  pub body : Body
+  pub pair : Pair
+  pub word : Word s.geometry at mark parent (slice_index (places_of i) x) body pair
+  pub leaves : hash s pair.key % 2 ^ p.head.depth ≡ i.job.hash % 2 ^ p.head.depth
+
+-- .. or was read as not 0
+abbrev pub Occupied : Setting → Inserting → Past → Past → Passed → ℕ → Type 0
+Occupied s i from q p x = (is_free p.free x ≡ false) ⊎ LeftOut s i from q p x
+
+-- a look of the insert has ended as Clear, and each candidate is occupied
 pub record NoRoom (s : Setting) (i : Inserting) (from q : Past) (p : Passed) : Type 0 where
-  pub looked : LookedAt s i.job.key from q p
-  pub none_left : (choice_of i p.free ≡ None) ⊎ IsTrue (is_filling p.head.state)
+  pub look : LookedFrom s i.job.key from q p
+  pub occupied : (x : ℕ) → x < length (places_of i) → Occupied s i look.opened q p x
 
 -- the pair was added by the last entry, a Commit of the client of its block at this address; the map had no such key before
 pub record Committed (s : Setting) (c : ℕ) (i : Inserting) (pair : Pair) (before : List Change) (l : Entries) (at : ℕ) : Type 0 where

@@ -14,10 +14,10 @@ use Rattle.block_taking.specs.declared.taking.Area.{Area}
 use Rattle.block_taking.specs.Text.{need}
 use Rattle.block_taking.specs.Rest.{take_rest}
 use Rattle.op_insert.specs.declared.end.InsertEnd.{InsertEnd}
-use Rattle.op_insert.specs.declared.end.InsertOutcome.TheVariants.{Inserted as InsertedEnd}
+use Rattle.op_insert.specs.declared.end.InsertOutcome.TheVariants.{Inserted as InsertedEnd, Again as AgainEnd}
 use Rattle.op_insert.specs.declared.work.Work.{Work}
 use Rattle.op_insert.specs.declared.at.At.{At}
-use Rattle.op_insert.specs.declared.at.At.TheVariants.{Look, ParentHeader, Begin, Open, ParentSlot, ParentBlock, ParentHash, Take, Place, Sweep, WithdrawHeld, WithdrawGone, WithdrawSpent, Commit, Lost, Left, Inserted, Exists, NeedRoom, Again, NoBlock}
+use Rattle.op_insert.specs.declared.at.At.TheVariants.{Look, ParentHeader, Begin, Open, ParentSlot, ParentBlock, ParentHash, Take, Place, Sweep, WithdrawHeld, WithdrawGone, WithdrawSpent, Commit, Lost, Left, Inserted, Exists, NeedRoom, Again, NoBlock, Out}
 use Rattle.op_insert.specs.ParentWords.{words_of}
 use Rattle.op_insert.specs.Text.{Inserting, Part, to_commit, exists_with, start_again, left_again, spent, no_block, need_room, part_end, choice_of, slot_in, after_look, after_sweep, after_taking, withdraw, place_block, take_and_place, on_parent_word, choose_filling, help_from, help, on_part, insert_from}
 
@@ -80,6 +80,7 @@ part_rest w Inserted = part_end spent w.pass.scan.table None (area w) 0
 part_rest w Exists = part_end (exists_with (held_of w.pass)) w.pass.scan.table w.numbers.kept (area w) w.numbers.left
 part_rest w NeedRoom = part_end (need_room (clear_of w.pass)) w.pass.scan.table w.numbers.kept (area w) w.numbers.left
 part_rest w Again = part_end spent w.pass.scan.table w.numbers.kept (area w) 0
+part_rest w Out = part_end spent w.pass.scan.table None (area w) 0
 part_rest w NoBlock = part_end (no_block (take w.take.taking.geometry.nodes w.take.progress.nexts) (need w.take.taking)) w.pass.scan.table None (area w) w.numbers.left
 
 -- what follows a part
@@ -88,6 +89,7 @@ next_part i n part = on_part i part (insert_from i n (Some part.table)) part.res
 
 abbrev pub at_rest : Work → At → Prog InsertEnd
 at_rest w Inserted = ret (record { outcome = InsertedEnd w.numbers.block; table = w.pass.scan.table; area = area w; lost = w.numbers.tries - w.numbers.left })
+at_rest w Out = ret (record { outcome = AgainEnd; table = w.pass.scan.table; area = area w; lost = w.numbers.tries - w.numbers.left })
 at_rest w at = bind (part_rest w at) (next_part (inserting w) w.numbers.parts)
 
 -- the insert's start and the parts that may follow stay
@@ -104,6 +106,7 @@ acts Exists = false
 acts NeedRoom = false
 acts Again = false
 acts NoBlock = false
+acts Out = false
 acts _ = true
 
 abbrev pub has_ended : At → Bool
@@ -112,6 +115,7 @@ has_ended Exists = true
 has_ended NeedRoom = true
 has_ended Again = true
 has_ended NoBlock = true
+has_ended Out = true
 has_ended _ = false
 
 -- how many counted swaps were lost

@@ -129,11 +129,6 @@ abbrev pub take_and_place : Inserting → ℕ → ℕ → Option ℕ → Area �
 take_and_place i t own (Some at) area left = place_block i t own at area left
 take_and_place i t own None area left = bind (take_block i.taking area left) (after_taking i t own)
 
--- 2. In a table that does not fill the chosen candidate is taken; where there is none, room is needed.
-abbrev pub choose_plain : Inserting → Passed → Option ℕ → Option ℕ → Area → ℕ → Prog Part
-choose_plain i p None kept area left = part_end (need_room p) p.table kept area left
-choose_plain i p (Some c) kept area left = take_and_place i p.table (slot_in i p.table c) kept area left
-
 -- the word in the same place of the parent: where its block's key has the child's suffix, the candidate is not free
 abbrev pub on_parent_slot : Inserting → ℕ → Prog Part → Prog Part → Option Slot → Prog Part
 on_parent_slot i e not_free good None = good
@@ -171,13 +166,18 @@ is_plain_at d head = is_plain head.state && (head.depth == d)
 abbrev pub help : Geometry → ℕ → ℕ → Prog Part → Prog Part
 help g u d next = ask (do_verb None (Read (header_at u))) (λ word. if is_plain_at d (head_in word) then help_from u d next (2 * g.groups) 0 else next)
 
--- 2. Where the last header was filling the parent is asked.
-abbrev pub choose_by_parent : Inserting → Passed → Option ℕ → Option ℕ → Area → ℕ → Prog Part
-choose_by_parent i p None kept area left = choose_plain i p (choice_of i p.free) kept area left
-choose_by_parent i p (Some u) kept area left = help i.job.geometry (address_of u) (p.head.depth - 1) (choose_filling i p (address_of u) 28 p.free (choice_of i p.free) kept area left)
+-- 2. The parent of a table that fills is asked; where the look searched one table alone, none is.
+abbrev pub choose_by_parent : Inserting → Passed → ℕ → Option ℕ → Option ℕ → Area → ℕ → Prog Part
+choose_by_parent i p c None kept area left = take_and_place i p.table (slot_in i p.table c) kept area left
+choose_by_parent i p c (Some u) kept area left = help i.job.geometry (address_of u) (p.head.depth - 1) (choose_filling i p (address_of u) 28 p.free (choice_of i p.free) kept area left)
+
+-- 1. Where no candidate was read as free, room is needed. 2. Else one is chosen; where the last header was not filling it is taken.
+abbrev pub choose_among : Inserting → Passed → Option ℕ → Option ℕ → Area → ℕ → Prog Part
+choose_among i p None kept area left = part_end (need_room p) p.table kept area left
+choose_among i p (Some c) kept area left = if is_filling p.head.state then choose_by_parent i p c p.parent kept area left else take_and_place i p.table (slot_in i p.table c) kept area left
 
 abbrev pub choose : Inserting → Passed → Option ℕ → Area → ℕ → Prog Part
-choose i p kept area left = if is_filling p.head.state then choose_by_parent i p p.parent kept area left else choose_plain i p (choice_of i p.free) kept area left
+choose i p kept area left = choose_among i p (choice_of i p.free) kept area left
 
 -- 1. The look has ended. Held: the key exists. A look has no other ends than Held and Clear.
 abbrev pub on_looked : Inserting → Option ℕ → Area → ℕ → Passed → PassEnd → Prog Part
@@ -221,9 +221,9 @@ abbrev pub table_of : Option ℕ → ℕ
 table_of None = 0
 table_of (Some t) = t
 
--- n parts at most, of which a legal log has fewer
+-- n parts at most, of which a legal log has fewer: none ends as the text does after the last one, with swaps that might still be lost
 unfoldable pub insert_from : Inserting → ℕ → Option ℕ → Option ℕ → Area → ℕ → Prog InsertEnd
-insert_from i zero start kept area left = ret (record { outcome = Again; table = table_of start; area = area; lost = i.tries })
+insert_from i zero start kept area left = ret (record { outcome = Again; table = table_of start; area = area; lost = i.tries - left })
 insert_from i (suc n) start kept area left =
     bind (insert_part i start kept area left) (λ part. on_part i part (insert_from i n (Some part.table)) part.result)
 

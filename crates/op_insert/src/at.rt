@@ -45,4 +45,6 @@ pub enum At {
     Again,
     /// No node has room for the block.
     NoBlock,
+    /// As many parts were begun as a legal log has at most. No insert on a legal log comes here.
+    Out,
 }

@@ -158,7 +158,7 @@ impl InsertOp {
     {
         matches!(
             self.at,
-            At::Inserted | At::Exists | At::NeedRoom | At::Again | At::NoBlock
+            At::Inserted | At::Exists | At::NeedRoom | At::Again | At::NoBlock | At::Out
         )
     }
 
@@ -247,6 +247,7 @@ impl Machine for InsertOp {
                 None => None,
             },
             At::Again => Some(self.ended(InsertOutcome::Again)),
+            At::Out => Some(self.ended(InsertOutcome::Again)),
             At::NoBlock => Some(self.ended(InsertOutcome::NoBlock {
                 next: self.work.take.nexts(),
                 need: u64::from(self.work.take.need()),

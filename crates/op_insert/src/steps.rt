@@ -12,7 +12,7 @@ ghost use Rattle.scan_pass.specs.Rest.{pass_rest};
 ghost use Rattle.block_taking.specs.Rest.{take_rest};
 ghost use Rattle.op_insert.specs.Looking.{IsClear};
 ghost use Rattle.op_insert.specs.ParentWords.{words_of};
-ghost use Rattle.op_insert.specs.Text.{places_of, slot_in, choice_of, after_look, after_sweep, after_taking, after_loss, sweep_of, choose, choose_plain, on_parent_word, is_plain_at, help_from};
+ghost use Rattle.op_insert.specs.Text.{places_of, slot_in, choice_of, after_look, after_sweep, after_taking, after_loss, sweep_of, choose, choose_among, on_parent_word, is_plain_at, help_from};
 ghost use Rattle.op_insert.specs.Rest.{inserting, area, clear_of, good, choices, not_free, chooses, on_hash, after_words, split_depth, part_rest, Same, acts};
 ghost use Rattle.op_insert.specs.AtFits.{AsksParent, HasChosen, PartFits};
 
@@ -55,39 +55,38 @@ impl At {
         }
     }
 
-    /// The look was clear.
-    #[tactic(auto, unfolding(pass_text::specs::Words::address_of))]
+    /// The look was clear: the choice among the free candidates.
     pub fn choosing(work: &mut Work) -> At
         requires { IsClear work.old.pass.at }
         ensures rest { part_rest work.new result ≡ choose (inserting work.old) (clear_of work.old.pass) work.old.numbers.kept (area work.old) work.old.numbers.left }
         ensures fits { PartFits work.new result }
         ensures same { Same work.old work.new }
     {
-        if !matches!(work.pass.head().state, State::Filling) {
-            return At::plain(work);
-        }
-        match work.pass.parent() {
-            None => At::plain(work),
-            Some(parent) => {
-                work.numbers.parent = parent % (1 << 46);
-                At::ParentHeader
-            }
-        }
-    }
-
-    /// The choice among the free candidates, where the table does not fill.
-    pub fn plain(work: &mut Work) -> At
-        requires { IsClear work.old.pass.at }
-        ensures rest { part_rest work.new result ≡ choose_plain (inserting work.old) (clear_of work.old.pass) (choice_of (inserting work.old) work.old.pass.scan.free) work.old.numbers.kept (area work.old) work.old.numbers.left }
-        ensures fits { PartFits work.new result }
-        ensures same { Same work.old work.new }
-    {
         let places = places(&work.job.geometry, work.job.hash);
         match choose(&places, work.pass.free()) {
             None => At::NeedRoom,
-            Some(index) => {
-                work.numbers.index = index;
-                At::good(work)
+            Some(index) => At::among(work, index),
+        }
+    }
+
+    /// The first choice. The parent of a table that fills is asked.
+    #[tactic(auto, unfolding(pass_text::specs::Words::address_of))]
+    pub fn among(work: &mut Work, index: usize) -> At
+        requires clear { IsClear work.old.pass.at }
+        requires index { index < length (places_of (inserting work.old)) }
+        ensures rest { part_rest work.new result ≡ choose_among (inserting work.old) (clear_of work.old.pass) (Some index) work.old.numbers.kept (area work.old) work.old.numbers.left }
+        ensures fits { PartFits work.new result }
+        ensures same { Same work.old work.new }
+    {
+        work.numbers.index = index;
+        if !matches!(work.pass.head().state, State::Filling) {
+            return At::good(work);
+        }
+        match work.pass.parent() {
+            None => At::good(work),
+            Some(parent) => {
+                work.numbers.parent = parent % (1 << 46);
+                At::ParentHeader
             }
         }
     }

@@ -32,6 +32,7 @@ impl At {
                 | At::NeedRoom
                 | At::Again
                 | At::NoBlock
+                | At::Out
         )
     }
 
@@ -43,7 +44,7 @@ impl At {
         ensures same { inserting work.new ≡ inserting work.old }
     {
         if work.numbers.parts == 0 {
-            return At::Again;
+            return At::Out;
         }
         work.numbers.parts -= 1;
         let table = work.pass.table();
