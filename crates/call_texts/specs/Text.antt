@@ -148,7 +148,7 @@ module _ (who : Caller) where
     after_insert st e (inserted.Inserted at) = ended Inserted 0 at (Some e.table) st.forgotten e.area st.ticket
     after_insert st e (inserted.Exists h) = ended (Exists h.value) (block_of h) (block_of h) (Some e.table) st.forgotten e.area st.ticket
     after_insert st e (inserted.NeedRoom p kept) = room st e p kept (st.left - e.lost) st.ticket
-    after_insert st e inserted.Again = refuses (Again who.tries) st.ticket st e
+    after_insert st e inserted.Again = refuses (Again (who.tries - (st.left - e.lost))) st.ticket st e
     after_insert st e (inserted.NoBlock next need) = refuses (NoBlock next need) st.ticket st e
 
     -- a part: the insert with what is left of the swaps that may be lost
