@@ -1,6 +1,6 @@
 -- A whole insert, with its splits, begun or gone on with.
-use Rattle.std.specs.Prelude.{◌≡◌, ◌≢◌, ℕ, zero, suc, ◌+◌, ◌-◌, ◌*◌, ◌%◌, ◌^◌, ◌<◌, ◌≤◌, ◌==◌, ◌||◌, ◌&&◌, Bool, true, false, cond, nat_le, List, ◌∷◌, [], length, reverse, slice_index, Option, Some, None, refl}
-use Rattle.std.proofs.Common.{sym, ◌∙◌, ap, subst, arith, ⊎_elim}
+use Rattle.std.specs.Prelude.{◌≡◌, ◌≢◌, ℕ, zero, suc, ◌+◌, ◌-◌, ◌*◌, ◌%◌, ◌^◌, ◌<◌, ◌≤◌, ◌==◌, ◌||◌, ◌&&◌, Bool, true, false, cond, nat_le, List, ◌∷◌, [], length, reverse, slice_index, Option, Some, None, ◌⊎◌, refl}
+use Rattle.std.proofs.Common.{sym, ◌∙◌, ap, subst, inl, inr, arith, ⊎_elim}
 use Rattle.std.proofs.lemmas.Bool.Decides.{nat_tests}
 use Rattle.std.proofs.lemmas.Nat.{mod_below, pow_pos}
 use Rattle.std.proofs.lemmas.Bool.{cases_lt}
@@ -16,6 +16,7 @@ use Rattle.map_model.specs.declared.calls.Call.TheVariants.{Insert}
 use Rattle.map_model.specs.declared.calls.Reply.{Reply}
 use Rattle.map_model.specs.declared.calls.Reply.TheVariants.{Exists, Again, FullDepth, FullWords, NoBlock}
 use Rattle.map_model.specs.Machine.{reply_at, is_change, is_quiet}
+use Rattle.node_words.specs.declared.geometry.Geometry.{Geometry}
 use Rattle.node_words.specs.Addresses.{slot_at, node_size}
 use Rattle.verb_log.specs.declared.entry.Verb.TheVariants.{Swap}
 use Rattle.verb_log.specs.Decoded.{PlainAt, header_of}
@@ -23,9 +24,8 @@ use Rattle.verb_log.specs.Changes.{changes}
 use Rattle.verb_log.specs.Tables.{Past, Before, here, later, word_at, words_at}
 use Rattle.verb_log.proofs.Positions.{Before-trans}
 use Rattle.verbs.specs.Logs.{Entries}
-use Rattle.verbs.specs.Programs.{Prog, do_verb, ret, ask, bind, Go, goes_on}
+use Rattle.verbs.specs.Programs.{Prog, do_verb, ret, ask, bind, Go, goes_on, Costs}
 use Rattle.verbs.specs.Calls.{SafeCall}
-use Rattle.verbs.proofs.Progs.{Within-more}
 use Rattle.verbs.proofs.Calls.{SafeCall-more}
 use Rattle.race_laws.specs.Setting.{Setting, hash}
 use Rattle.race_laws.specs.Standing.{key_header, depth, Stays}
@@ -49,12 +49,13 @@ use Rattle.log_facts.proofs.Within.{slot_within}
 use Rattle.log_facts.proofs.Written.{block_since}
 use Rattle.pass_text.specs.declared.job.PassMode.TheVariants.{Look}
 use Rattle.pass_text.specs.declared.passed.Passed.{Passed}
+use Rattle.pass_laws.specs.HasPassed.{LookedAt}
 use Rattle.pass_laws.specs.SafeIn.{SafeBy, Calmly}
 use Rattle.pass_laws.specs.Law.{MayBegin}
 use Rattle.pass_laws.proofs.Rules.{Holds, by_kept}
 use Rattle.call_laws.specs.Judged.{judged}
 use Rattle.call_laws.proofs.LastSwap.{last_swap}
-use Rattle.call_laws.proofs.QuietParts.{quiet_bind, call_bind}
+use Rattle.call_laws.proofs.QuietParts.{call_costs}
 use Rattle.call_laws.proofs.Moments.{held_then}
 use Rattle.dir_cache.specs.Cached.{Cached, entry_of}
 use Rattle.block_taking.specs.declared.taking.Area.{Area}
@@ -63,11 +64,10 @@ use Rattle.op_insert.specs.declared.end.InsertEnd.{InsertEnd}
 use Rattle.op_insert.specs.declared.end.InsertOutcome.{InsertOutcome}
 use Rattle.op_insert.specs.declared.end.InsertOutcome.TheVariants as inserted
 use Rattle.op_insert.specs.Text.{Inserting as InsertPlan, Part, Result, to_commit, exists_with, start_again, left_again, spent, no_block, need_room, is_plain, is_plain_at, pending_word, live_word, insert_part, ended, ends_again, after_commit, on_part, insert_from, parts_of}
-use Rattle.op_insert.specs.Bound.{part_verbs}
 use Rattle.op_insert.specs.Law.{inserting_of, NoRoom}
 use Rattle.op_insert.proofs.PartEnds.{ToCommit, ResultSo, FallsBy, PartEnd}
+use Rattle.op_insert.proofs.Filling.{looked_from}
 use Rattle.op_insert.proofs.Parts.{part_safe}
-use Rattle.op_insert.proofs.Bounds.{part_bounded}
 use Rattle.op_insert.proofs.Committing.{commit_table, commit_meets, commit_kind, commit_change, commit_absent, commit_owns}
 use Rattle.split_text.specs.declared.site.SplitJob.{SplitJob}
 use Rattle.split_text.specs.declared.site.Ticket.{Ticket}
@@ -75,9 +75,6 @@ use Rattle.split_text.specs.declared.resized.ResizeEnd.{ResizeEnd}
 use Rattle.split_text.specs.declared.resized.ResizeOutcome.{ResizeOutcome}
 use Rattle.split_text.specs.declared.resized.ResizeOutcome.TheVariants as split
 use Rattle.split_text.specs.Text.{resize, resume}
-use Rattle.split_text.specs.Bound.{resize_acts}
-use Rattle.split_text.proofs.Bounds.{resume-within}
-use Rattle.split_text.proofs.Whole.{resize-within}
 use Rattle.begin_laws.specs.Law.{MaySplit, ChangedIn}
 use Rattle.begin_laws.specs.States.{Untouched}
 use Rattle.split_laws.specs.Ticket.{Fits}
@@ -85,11 +82,16 @@ use Rattle.split_laws.specs.Law.{SplitBy, EndSo, Fewer, HasSplit, ResumedSo, Has
 use Rattle.split_laws.proofs.Whole.{whole_safe, resume_safe}
 use Rattle.call_texts.specs.State.{State, Caller, caller_of, CallEnd, Inserting, with_forgotten, Stage, inserting}
 use Rattle.call_texts.specs.Text.{part_of, insert_plan, unless_split, starts_again, refuses, after_split, split_job, room, was_full, is_table, plain_full, after_insert}
-use Rattle.call_texts.specs.Bound.{insert_round, insert_acts}
+use Rattle.call_texts.specs.Bound.{split_most, call_most}
+use Rattle.call_bounds.specs.Bound.{loss_most, part_most, insert_most}
+use Rattle.call_bounds.proofs.Parts.{parts_cost}
+use Rattle.call_bounds.proofs.Splits.{splits_cost, resumes_cost}
+use Rattle.call_bounds.proofs.Fitting.{parts_fit}
 use Rattle.whole_calls.specs.Fits.{TicketFits}
 use Rattle.whole_calls.specs.Law.{IsSafeWithin, MayCall, InsertIsSafe}
-use Rattle.whole_calls.specs.Right.{Right, Cause, NoPlace}
+use Rattle.whole_calls.specs.Right.{Right, Cause, NoPlace, FullTable}
 use Rattle.whole_calls.proofs.Fitting.{ticket_firm}
+use Rattle.whole_calls.proofs.Inside.{quiet_costs}
 use Rattle.whole_calls.proofs.Points.{false_true, true_false, point, told, Going, going_firm, own_state, state_is, may_look}
 use Rattle.whole_calls.proofs.Depths.{Full, full_on, full_there, deep_stuck, split_deeper, change_deeper, change_full, stays_plain}
 
@@ -97,6 +99,10 @@ use Rattle.whole_calls.proofs.Depths.{Full, full_on, full_there, deep_stuck, spl
 bind_twice : {A B C : Type 0} (p : Prog A) (f : A → Prog B) (g : B → Prog C) → bind (bind p f) g ≡ bind p (λ x. bind (f x) g)
 bind_twice (ret a) f g = refl
 bind_twice (ask act k) f g = ap (ask act) (λ i answer. bind_twice (k answer) f g i)
+
+-- none of those that might be lost is left
+all_lost : (n left : ℕ) → n - (left - left) ≡ n
+all_lost n left = omega arith
 
 equal_test : (x y : ℕ) → (x == y) ≡ true → x ≡ y
 equal_test x y h = grind (arith, nat_tests)
@@ -180,11 +186,16 @@ module _ (s : Setting) (c tries : ℕ) (pair : Pair) (ip : IsPair pair) (cache :
   abbrev Goes : ℕ → List Change → Entries → Prog (Go Stage CallEnd) → Type 0
   Goes n b l p = SafeCall (judged s c part) n b l (goes_on part p) Ends
 
-  abbrev acts : ℕ
-  acts = resize_acts s.geometry tries
-
+  -- a part with its split, but for the lost swaps
   abbrev round : ℕ
-  round = insert_round s.geometry tries
+  round = insert_most s.geometry
+
+  abbrev split_acts : ℕ
+  split_acts = split_most s.geometry
+
+  -- so many parts more, while so many swaps may be lost
+  abbrev budget : ℕ → ℕ → ℕ
+  budget left parts = loss_most * left + parts * round
 
   goes_more : (n most : ℕ) (b : List Change) (l : Entries) (p : Prog (Go Stage CallEnd)) → n ≤ most → Goes n b l p → Goes most b l p
   goes_more n most b l p le g = SafeCall-more (judged s c part) Ends n most b l (goes_on part p) le g
@@ -230,7 +241,7 @@ module _ (s : Setting) (c tries : ℕ) (pair : Pair) (ip : IsPair pair) (cache :
   pick_false N b l p q false e g = g
 
   -- A stage from which later ones have fewer ranks.
-  module _ (st : Inserting) (rank : ℕ) (ih : (less : ℕ) (d : List Change) (m : Entries) (st2 : Inserting) → less < rank → From less m st2 → changes_of s m ≡ d → SafeCall (judged s c part) (less * round) d m (part (inserting who pair st2)) Ends) (st_few : st.left ≤ tries) where
+  module _ (st : Inserting) (rank : ℕ) (ih : (less : ℕ) (d : List Change) (m : Entries) (st2 : Inserting) → less < rank → From less m st2 → changes_of s m ≡ d → SafeCall (judged s c part) (budget st2.left less) d m (part (inserting who pair st2)) Ends) (st_few : st.left ≤ tries) where
     abbrev i : InsertPlan
     i = insert_plan who pair st.left
 
@@ -263,11 +274,14 @@ module _ (s : Setting) (c tries : ℕ) (pair : Pair) (ip : IsPair pair) (cache :
       l : Legal s (reverse m)
       l = x.legal
 
-      passed_table : no.looked.clear.passed.table ≡ p.table
-      passed_table = no.looked.clear.table ∙ te
+      abbrev looked : LookedAt s pair.key from (reverse m) q
+      looked = looked_from s pair.key from (reverse m) q no.look
 
-      abbrev w0 : Stayed s pair.key from (reverse m) no.looked.clear.passed.table
-      w0 = clear_stayed s pair.key None from (reverse m) l no.looked.clear.passed
+      passed_table : looked.clear.passed.table ≡ p.table
+      passed_table = looked.clear.table ∙ te
+
+      abbrev w0 : Stayed s pair.key from (reverse m) looked.clear.passed.table
+      w0 = clear_stayed s pair.key None from (reverse m) l looked.clear.passed
 
       -- by its last header the key stayed in the table
       abbrev w : Stayed s pair.key from (reverse m) p.table
@@ -280,7 +294,7 @@ module _ (s : Setting) (c tries : ℕ) (pair : Pair) (ip : IsPair pair) (cache :
       }
 
       w_head : key_header s w0.at p.table pair.key ≡ header_of (Some q.head)
-      w_head = subst (λ t. key_header s w0.at t pair.key ≡ header_of (Some q.head)) te no.looked.clear.head
+      w_head = subst (λ t. key_header s w0.at t pair.key ≡ header_of (Some q.head)) te looked.clear.head
 
       w_depth : depth (key_header s w0.at p.table pair.key) ≡ q.head.depth
       w_depth = ap depth w_head ∙ head_depth q.head
@@ -290,7 +304,7 @@ module _ (s : Setting) (c tries : ℕ) (pair : Pair) (ip : IsPair pair) (cache :
 
       -- another part
       start_from : (y : Entries) (b : List Change) (start : Option ℕ) → MayBegin s pair.key Look (reverse y) start → (kept : Option ℕ) (left : ℕ) (full : Option ℕ) (forgotten : List ℕ) (reach2 : ℕ) → Legal s (reverse y) → Before (reverse m) (reverse y) → Owns s c p.area (reverse y) → KeptBlock s c (packed pair.key pair.value) kept p.area (reverse y) → 1 ≤ left → left ≤ tries → Reached s pair.key (reverse y) reach2
-          → Full s pair.key (reverse y) full → left - 1 + (s.geometry.max_depth - reach2) + unseen full < less → changes_of s y ≡ b → Goes (less * round) b y (starts_again who pair None st e start kept left full forgotten)
+          → Full s pair.key (reverse y) full → left - 1 + (s.geometry.max_depth - reach2) + unseen full < less → changes_of s y ≡ b → Goes (budget left less) b y (starts_again who pair None st e start kept left full forgotten)
       start_from y b start begin kept left full forgotten reach2 ly bm ow kb some few rc fs count2 same =
           ih less b y (record { start = start; kept = kept; left = left; full = full; forgotten = forgotten; area = p.area; ticket = None }) lr
           (record {
@@ -309,7 +323,7 @@ module _ (s : Setting) (c tries : ℕ) (pair : Pair) (ip : IsPair pair) (cache :
           }) same
 
       start_less : (y : Entries) (b : List Change) (kept : Option ℕ) (left : ℕ) (full : Option ℕ) (forgotten : List ℕ) (reach2 : ℕ) → Legal s (reverse y) → Before (reverse m) (reverse y) → Owns s c p.area (reverse y) → KeptBlock s c (packed pair.key pair.value) kept p.area (reverse y) → 1 ≤ left → left ≤ tries → Reached s pair.key (reverse y) reach2
-          → Full s pair.key (reverse y) full → left - 1 + (s.geometry.max_depth - reach2) + unseen full < less → changes_of s y ≡ b → Goes (less * round) b y (starts_again who pair None st e (Some p.table) kept left full forgotten)
+          → Full s pair.key (reverse y) full → left - 1 + (s.geometry.max_depth - reach2) + unseen full < less → changes_of s y ≡ b → Goes (budget left less) b y (starts_again who pair None st e (Some p.table) kept left full forgotten)
       start_less y b kept left full forgotten reach2 ly bm ow kb some few rc fs count2 same =
           start_from y b (Some p.table) (start_before s bm ly h p.table x.start) kept left full forgotten reach2 ly bm ow kb some few rc fs count2 same
 
@@ -322,25 +336,46 @@ module _ (s : Setting) (c tries : ℕ) (pair : Pair) (ip : IsPair pair) (cache :
           by false = t
 
       start_split : (y : Entries) (b : List Change) (u : ℕ) (kept : Option ℕ) (left : ℕ) (full : Option ℕ) (forgotten : List ℕ) (reach2 : ℕ) → Legal s (reverse y) → Before (reverse m) (reverse y) → Owns s c p.area (reverse y) → KeptBlock s c (packed pair.key pair.value) kept p.area (reverse y) → 1 ≤ left → left ≤ tries → Reached s pair.key (reverse y) reach2
-          → Full s pair.key (reverse y) full → left - 1 + (s.geometry.max_depth - reach2) + unseen full < less → changes_of s y ≡ b → Goes (less * round) b y (starts_again who pair None st e (unless_split (Some p.table) u) kept left full forgotten)
+          → Full s pair.key (reverse y) full → left - 1 + (s.geometry.max_depth - reach2) + unseen full < less → changes_of s y ≡ b → Goes (budget left less) b y (starts_again who pair None st e (unless_split (Some p.table) u) kept left full forgotten)
       start_split y b u kept left full forgotten reach2 ly bm ow kb some few rc fs count2 same =
           start_from y b (unless_split (Some p.table) u) (may_unless y u (start_before s bm ly h p.table x.start)) kept left full forgotten reach2 ly bm ow kb some few rc fs count2 same
 
-      no_place : (y : Entries) → Before (reverse m) (reverse y) → NoPlace s c call (reverse first) (reverse y)
+      abbrev no_place : (y : Entries) → Before (reverse m) (reverse y) → NoPlace s c call (reverse first) (reverse y)
       no_place y b = record { pair = pair; is = refl; since = from; from_then = x.since; till = reverse m; till_then = b; passed = q; tries = st.left; none = no }
 
       -- the table is full
       full_answer : (d : List Change) → is_plain_at s.geometry.max_depth q.head ≡ true → st.ticket ≡ None → changes_of s m ≡ d → (v : Bool) → was_full who pair st p.table q ≡ v
-          → Goes (less * round) d m (cond v (refuses who pair (FullDepth s.geometry.max_depth) None st e) (starts_again who pair None st e (Some p.table) p.kept p.left (Some p.table) st.forgotten))
+          → Goes (budget p.left less) d m (cond v (refuses who pair (FullDepth s.geometry.max_depth) None st e) (starts_again who pair None st e (Some p.table) p.kept p.left (Some p.table) st.forgotten))
       full_answer d full has same true v = refused (FullDepth s.geometry.max_depth) p.table st.forgotten p.area None d m refl refl
-          (refl, record { at = w0.at; from_then = Before-trans x.since w0.from_then; till = w0.till; table = p.table; plain = w_head ∙ plain_head s.geometry.max_depth q.head full }, no_place m here)
+          (refl, record { no_place = no_place m here; full = before.0; there = before.1 })
           x.start x.owns tt same
+        where
+          Seen : Type 0
+          Seen = (f : FullTable s pair.key (reverse first) no.look.opened) × (f.table ≡ q.table)
+
+          remembered : (o : Option ℕ) → st.full ≡ o → Full s pair.key from o → is_table who pair o p.table ≡ true → Seen
+          remembered None e f t = absurd (false_true t)
+          remembered (Some u) e f t =
+              let same_table : u ≡ q.table = equal_test u p.table t ∙ sym te in
+              (record { at = from; from_then = x.since; till = no.look.from_then; table = u; plain = inr f.1 }, same_table)
+
+          opened_full : (o : Option Head) → q.opened ≡ o → plain_full who pair o ≡ true → Seen
+          opened_full None e t = absurd (false_true t)
+          opened_full (Some g) e t =
+              (record { at = no.look.opened; from_then = Before-trans x.since no.look.from_then; till = here; table = q.table; plain = inl (no.look.opened_head g e ∙ plain_head s.geometry.max_depth g t) }, refl)
+
+          or_one : (a b : Bool) → (a || b) ≡ true → (a ≡ true) ⊎ (b ≡ true)
+          or_one true b t = inl refl
+          or_one false b t = inr t
+
+          before : Seen
+          before = ⊎_elim (remembered st.full refl x.seen) (opened_full q.opened refl) (or_one (is_table who pair st.full p.table) (plain_full who pair q.opened) v)
       full_answer d full has same false v = by st.full refl x.seen
         where
           plain : key_header s w0.at p.table pair.key ≡ PlainAt s.geometry.max_depth
           plain = w_head ∙ plain_head s.geometry.max_depth q.head full
 
-          by : (o : Option ℕ) → st.full ≡ o → Full s pair.key from o → Goes (less * round) d m (starts_again who pair None st e (Some p.table) p.kept p.left (Some p.table) st.forgotten)
+          by : (o : Option ℕ) → st.full ≡ o → Full s pair.key from o → Goes (budget p.left less) d m (starts_again who pair None st e (Some p.table) p.kept p.left (Some p.table) st.forgotten)
           by None o g =
               let one = ap unseen o in
               let zero = ap held has in
@@ -380,15 +415,15 @@ module _ (s : Setting) (c tries : ℕ) (pair : Pair) (ip : IsPair pair) (cache :
           let a = aimed s pair.key w0.till l p.table (header_of (Some q.head)) sp w_head (subst (λ v. Stays s w0.at p.table pair.key v) w_head w.stays) in
           record { geometry = refl; table = a.0; suffix = a.1 ∙ ap (λ v. h % 2 ^ v) (head_depth q.head); low = low_suffix h q.head.depth }
         where
-          passed_start : Start s.geometry w0.at h no.looked.clear.passed.table
+          passed_start : Start s.geometry w0.at h looked.clear.passed.table
           passed_start =
-              let z = no.looked.clear.passed in
+              let z = looked.clear.passed in
               let b = in_order_span z.since z.seen z.end z.misses.stand in
               start_before s b lw h z.table (passing_start s pair.key None from z.prev z.table z.since (legal_before s b lw) z.passing)
 
       -- the split has ended
       split_ends : is_plain_at s.geometry.max_depth q.head ≡ false → st.ticket ≡ None → (y : Entries) (b : List Change) → Legal s (reverse y) → Before (reverse m) (reverse y) → (r : ResizeEnd) (o : ResizeOutcome) → EndSo s c (reverse m) p.table q.head.depth (reverse y) r.left o → Fewer p.left r.left o → Untouched s c (reverse m) (reverse y) → changes_of s y ≡ b
-          → Goes (less * round) b y (after_split who pair st e p.kept q.head.depth r.left o)
+          → Goes (budget r.left less) b y (after_split who pair st e p.kept q.head.depth r.left o)
       split_ends nf has y b ly bm r (split.Split u dd) so le un same =
           let zero = ap held has in
           let few = x.few in
@@ -410,7 +445,7 @@ module _ (s : Setting) (c tries : ℕ) (pair : Pair) (ip : IsPair pair) (cache :
           keep : KeptBlock s c (packed pair.key pair.value) p.kept p.area (reverse y)
           keep = block_untouched s c (packed pair.key pair.value) p.kept p.area (reverse m) (reverse y) un x.keeps
 
-          at_top : q.head.depth ≡ s.geometry.max_depth → (o : Option ℕ) → st.full ≡ o → Full s pair.key from o → Goes (less * round) b y (starts_again who pair None st e (Some p.table) p.kept r.left (Some p.table) st.forgotten)
+          at_top : q.head.depth ≡ s.geometry.max_depth → (o : Option ℕ) → st.full ≡ o → Full s pair.key from o → Goes (budget r.left less) b y (starts_again who pair None st e (Some p.table) p.kept r.left (Some p.table) st.forgotten)
           at_top t None o g =
               let one = ap unseen o in
               let zero = ap held has in
@@ -423,7 +458,7 @@ module _ (s : Setting) (c tries : ℕ) (pair : Pair) (ip : IsPair pair) (cache :
           low_depth : (x y top : ℕ) → x ≡ y → x ≤ top → (y == top) ≡ false → x < top
           low_depth x y top e k t = grind (arith, nat_tests, t)
 
-          by : (v : Bool) → (q.head.depth == s.geometry.max_depth) ≡ v → Goes (less * round) b y (starts_again who pair None st e (Some p.table) p.kept r.left (cond v (Some p.table) st.full) st.forgotten)
+          by : (v : Bool) → (q.head.depth == s.geometry.max_depth) ≡ v → Goes (budget r.left less) b y (starts_again who pair None st e (Some p.table) p.kept r.left (cond v (Some p.table) st.full) st.forgotten)
           by true t = at_top (equal_test q.head.depth s.geometry.max_depth t) st.full refl x.seen
           by false t =
               let zero = ap held has in
@@ -444,7 +479,7 @@ module _ (s : Setting) (c tries : ℕ) (pair : Pair) (ip : IsPair pair) (cache :
 
       -- the split of the ticket has ended
       resume_ends : (tk : Ticket) → st.ticket ≡ Some tk → (y : Entries) (b : List Change) → Legal s (reverse y) → Before (reverse m) (reverse y) → (r : ResizeEnd) (o : ResizeOutcome) → ResumedSo s c tk.site.table tk.site.depth (reverse y) r.left o → r.left ≤ p.left → Untouched s c (reverse m) (reverse y) → changes_of s y ≡ b
-          → Goes (less * round) b y (after_split who pair st e p.kept q.head.depth r.left o)
+          → Goes (budget r.left less) b y (after_split who pair st e p.kept q.head.depth r.left o)
       resume_ends tk has y b ly bm r (split.Split u dd) so le un same =
           let one = ap held has in
           let few = x.few in
@@ -464,41 +499,42 @@ module _ (s : Setting) (c tries : ℕ) (pair : Pair) (ip : IsPair pair) (cache :
       legally : Holds Unchanging s c Legally
       legally = record { others = λ y en le o g. (le, later g.1); own = λ y en le r g. (le, later g.1) }
 
-      acts_more : (n : ℕ) → n ≤ tries → resize_acts s.geometry n ≤ acts
-      acts_more n le = omega arith
+      -- a split, and then what follows while so many swaps may be lost
+      abbrev splitting : ℕ
+      splitting = split_acts + loss_most * p.left + less * round
 
-      room_safe : (d : List Change) → changes_of s m ≡ d → (o : Option Ticket) → st.ticket ≡ o → TicketFits s c o (reverse m) → Goes (acts + less * round) d m (room who pair st e q p.kept p.left o)
+      room_safe : (d : List Change) → changes_of s m ≡ d → (o : Option Ticket) → st.ticket ≡ o → TicketFits s c o (reverse m) → Goes splitting d m (room who pair st e q p.kept p.left o)
       room_safe d same (Some tk) has ft =
-          quiet_bind s c part (resume tk p.left) (λ r. after_split who pair st e p.kept q.head.depth r.left r.outcome) (λ y r. HasResumed s c tk.site.table tk.site.depth p.left (reverse m) y r × Legally y) Ends acts (less * round) d m
-          (Within-more (resize_acts tk.geometry p.left) acts (resume tk p.left) (subst (λ (g : _). resize_acts g p.left ≤ acts) (sym ft.geometry) (acts_more p.left x.few)) (resume-within tk p.left)) same
+          quiet_costs s c part (resume tk p.left) (λ r. after_split who pair st e p.kept q.head.depth r.left r.outcome) (λ y r. HasResumed s c tk.site.table tk.site.depth p.left (reverse m) y r × Legally y) Ends (λ r. loss_most * r.left) (split_acts + loss_most * p.left) (less * round) d m
+          (subst (λ (g : Geometry). Costs (λ (r : ResizeEnd). loss_most * r.left) (split_most g + loss_most * p.left) (resume tk p.left)) ft.geometry (resumes_cost tk p.left x.some)) same
           (by_kept Unchanging s c Legally legally (reverse m) (resume tk p.left) (λ y r. HasResumed s c tk.site.table tk.site.depth p.left (reverse m) y r) (l, here)
           (subst (λ v. SafeBy Unchanging s v (reverse m) (resume tk p.left) (λ y r. HasResumed s v tk.site.table tk.site.depth p.left (reverse m) y r)) ft.client
           (resume_safe s tk (reverse m) l (subst (λ v. Fits s v tk (reverse m)) (sym ft.client) ft) p.left x.some)))
           (λ y r b g same2. resume_ends tk has y b g.1.0 g.1.1 r r.outcome g.0.so g.0.fewer g.0.untouched same2)
       room_safe d same None has ft = by (is_plain_at s.geometry.max_depth q.head) refl
         where
-          by : (v : Bool) → is_plain_at s.geometry.max_depth q.head ≡ v → Goes (acts + less * round) d m (cond v (cond (was_full who pair st p.table q) (refuses who pair (FullDepth s.geometry.max_depth) None st e) (starts_again who pair None st e (Some p.table) p.kept p.left (Some p.table) st.forgotten))
+          by : (v : Bool) → is_plain_at s.geometry.max_depth q.head ≡ v → Goes splitting d m (cond v (cond (was_full who pair st p.table q) (refuses who pair (FullDepth s.geometry.max_depth) None st e) (starts_again who pair None st e (Some p.table) p.kept p.left (Some p.table) st.forgotten))
               (bind (resize job p.left) (λ r. after_split who pair st e p.kept q.head.depth r.left r.outcome)))
-          by true v = goes_more (less * round) (acts + less * round) d m (cond (was_full who pair st p.table q) (refuses who pair (FullDepth s.geometry.max_depth) None st e) (starts_again who pair None st e (Some p.table) p.kept p.left (Some p.table) st.forgotten)) (omega arith)
+          by true v = goes_more (budget p.left less) splitting d m (cond (was_full who pair st p.table q) (refuses who pair (FullDepth s.geometry.max_depth) None st e) (starts_again who pair None st e (Some p.table) p.kept p.left (Some p.table) st.forgotten)) (omega arith)
               (full_answer d v has same (was_full who pair st p.table q) refl)
           by false v =
-              quiet_bind s c part (resize job p.left) (λ r. after_split who pair st e p.kept q.head.depth r.left r.outcome) (λ y r. HasSplit s c p.table q.head.depth p.left (reverse m) y r × Legally y) Ends acts (less * round) d m
-              (Within-more (resize_acts s.geometry p.left) acts (resize job p.left) (acts_more p.left x.few) (resize-within job p.left s.geometry.few)) same
+              quiet_costs s c part (resize job p.left) (λ r. after_split who pair st e p.kept q.head.depth r.left r.outcome) (λ y r. HasSplit s c p.table q.head.depth p.left (reverse m) y r × Legally y) Ends (λ r. loss_most * r.left) (split_acts + loss_most * p.left) (less * round) d m
+              (splits_cost job p.left x.some) same
               (by_kept Unchanging s c Legally legally (reverse m) (resize job p.left) (λ y r. HasSplit s c p.table q.head.depth p.left (reverse m) y r) (l, here) (whole_safe s job (reverse m) l may_split p.left x.some))
               (λ y r b g same2. split_ends v has y b g.1.0 g.1.1 r r.outcome g.0.so g.0.fewer g.0.untouched same2)
 
     -- .. the split or the answer, with what the operation tells
     need_safe : (p : Part) (from : Past) (reach : ℕ) (m : Entries) → Then p from reach m → (q : Passed) → NoRoom s i from (reverse m) q → q.table ≡ p.table → (less : ℕ) → less < rank → p.left - 1 + (s.geometry.max_depth - reach) + unseen st.full + held st.ticket < suc less → (d : List Change) → changes_of s m ≡ d
-        → Goes (acts + less * round) d m (after (end_with (inserted.NeedRoom q p.kept) p))
+        → Goes (split_acts + loss_most * p.left + less * round) d m (after (end_with (inserted.NeedRoom q p.kept) p))
     need_safe p from reach m x q nr te less lr count d same =
-        subst (λ v. Goes (acts + less * round) d m (room who pair st (end_with (inserted.NeedRoom q p.kept) p) q p.kept v st.ticket)) (back st.left p.left x.low)
+        subst (λ v. Goes (split_acts + loss_most * p.left + less * round) d m (room who pair st (end_with (inserted.NeedRoom q p.kept) p) q p.kept v st.ticket)) (back st.left p.left x.low)
         (room_safe p from reach m x q nr te less lr count d same st.ticket refl x.ticket_now)
       where
         back : (a b : ℕ) → b ≤ a → b ≡ a - (a - b)
         back a b le = omega arith
 
     -- the operation goes on so many parts at most
-    module _ (n : ℕ) (inner : (less : ℕ) (start kept : Option ℕ) (area : Area) (left : ℕ) (d : List Change) (l : Entries) → less ≤ rank → left ≤ st.left → (x : Now st.ticket st.full start kept area left less l) → left - 1 + (s.geometry.max_depth - x.reach) < n → changes_of s l ≡ d → Goes (less * round) d l (bind (insert_from i n start kept area left) after))
+    module _ (n : ℕ) (inner : (less : ℕ) (start kept : Option ℕ) (area : Area) (left : ℕ) (d : List Change) (l : Entries) → less ≤ rank → left ≤ st.left → (x : Now st.ticket st.full start kept area left less l) → left - 1 + (s.geometry.max_depth - x.reach) < n → changes_of s l ≡ d → Goes (budget left less) d l (bind (insert_from i n start kept area left) after))
         (less : ℕ) (lr : less < rank) (start0 kept0 : Option ℕ) (area1 : Area) (left0 : ℕ) (l0 : Entries) (low0 : left0 ≤ st.left) (x0 : Now st.ticket st.full start0 kept0 area1 left0 (suc less) l0) (fits : left0 - 1 + (s.geometry.max_depth - x0.reach) < suc n) where
       -- what is known where the part has ended
       record At (p : Part) (m : Entries) : Type 0 where
@@ -509,15 +545,16 @@ module _ (s : Setting) (c tries : ℕ) (pair : Pair) (ip : IsPair pair) (cache :
         owns : Owns s c p.area (reverse m)
         keeps : KeptBlock s c (packed pair.key pair.value) p.kept p.area (reverse m)
 
-      abbrev X : ℕ
-      X = acts + less * round
+      -- what follows a part of this end
+      abbrev follows : ℕ → ℕ
+      follows left = loss_most * left + suc (split_acts + less * round)
 
       abbrev next : Part → Option ℕ → Area → ℕ → Prog InsertEnd
       next p = insert_from i n (Some p.table)
 
       -- the next part, with fewer swaps that may be lost, or with more reached
       next_safe : (p : Part) (m : Entries) (d : List Change) (kept : Option ℕ) (left reach : ℕ) → At p m → KeptBlock s c (packed pair.key pair.value) kept p.area (reverse m) → 1 ≤ left → left ≤ left0 → Reached s pair.key (reverse m) reach → left - 1 + (s.geometry.max_depth - reach) < left0 - 1 + (s.geometry.max_depth - x0.reach) → changes_of s m ≡ d
-          → Goes (less * round) d m (bind (next p kept p.area left) after)
+          → Goes (budget left less) d m (bind (next p kept p.area left) after)
       next_safe p m d kept left reach a kb some low rc fewer same =
           let few = x0.few in
           let count = x0.count in
@@ -549,14 +586,15 @@ module _ (s : Setting) (c tries : ℕ) (pair : Pair) (ip : IsPair pair) (cache :
         abbrev lost_then : Prog InsertEnd
         lost_then = cond (nat_le p.left 1) (ends_again i p) (next p None p.area (p.left - 1))
 
-        lost_safe : (z : Entries) → At p z → Goes (less * round) (changes_of s z) z (bind lost_then after)
+        lost_safe : (z : Entries) → At p z → Goes (budget p.left less) (changes_of s z) z (bind lost_then after)
         lost_safe z az = by (nat_le p.left 1) refl
           where
-            by : (v : Bool) → nat_le p.left 1 ≡ v → Goes (less * round) (changes_of s z) z (bind (cond v (ends_again i p) (next p None p.area (p.left - 1))) after)
-            by true e = refuses_so p z (changes_of s z) az (Again tries) refl refl refl refl
+            by : (v : Bool) → nat_le p.left 1 ≡ v → Goes (budget p.left less) (changes_of s z) z (bind (cond v (ends_again i p) (next p None p.area (p.left - 1))) after)
+            by true e = refuses_so p z (changes_of s z) az (Again (tries - (st.left - st.left))) refl refl (all_lost tries st.left) refl
             by false e =
                 let two : 2 ≤ p.left = grind (arith, nat_tests, e) in
-                next_safe p z (changes_of s z) None (p.left - 1) x0.reach az tt (omega arith) (omega arith) (reached_before s pair.key az.later_than az.legal x0.reach x0.reached) (omega arith) refl
+                goes_more (budget (p.left - 1) less) (budget p.left less) (changes_of s z) z (bind (next p None p.area (p.left - 1)) after) (omega arith)
+                (next_safe p z (changes_of s z) None (p.left - 1) x0.reach az tt (omega arith) (omega arith) (reached_before s pair.key az.later_than az.legal x0.reach x0.reached) (omega arith) refl)
 
         pick : (N : ℕ) (b : List Change) (z : Entries) (q r : Prog InsertEnd) (v w : Bool) → v ≡ w → Goes N b z (bind (cond w q r) after) → Goes N b z (bind (cond v q r) after)
         pick N b z q r v w e g = subst (λ t. Goes N b z (bind (cond t q r) after)) (sym e) g
@@ -567,10 +605,10 @@ module _ (s : Setting) (c tries : ℕ) (pair : Pair) (ip : IsPair pair) (cache :
         other_word : (x y : ℕ) → x ≢ y → (x == y) ≡ false
         other_word x y e = grind (arith, nat_tests)
 
-        commit_safe : (d : List Change) → changes_of s m ≡ d → Goes (suc (less * round)) d m (bind (on_part i p (next p) (to_commit own at)) after)
+        commit_safe : (d : List Change) → changes_of s m ≡ d → Goes (suc (budget p.left less)) d m (bind (on_part i p (next p) (to_commit own at)) after)
         commit_safe d same =
-            subst (λ v. Goes (suc (less * round)) d m (ask (do_verb None (Swap v (pending_word i at) (live_word i at))) (λ found. bind (after_commit i at found p (next p)) after))) (sym tc.own_is)
-            (last_swap s c part slot (pending_word i at) (live_word i at) (less * round) (λ found. bind (after_commit i at found p (next p)) after) Ends d m same
+            subst (λ v. Goes (suc (budget p.left less)) d m (ask (do_verb None (Swap v (pending_word i at) (live_word i at))) (λ found. bind (after_commit i at found p (next p)) after))) (sym tc.own_is)
+            (last_swap s c part slot (pending_word i at) (live_word i at) (budget p.left less) (λ found. bind (after_commit i at found p (next p)) after) Ends d m same
             (slot_within s (reverse m) a.legal tc.table tc.place (commit_table s c i pair p.area (reverse m) own at tc (reverse m) here) tc.is_place)
             (λ z lz sz.
             let bz = since_before sz in
@@ -587,7 +625,7 @@ module _ (s : Setting) (c tries : ℕ) (pair : Pair) (ip : IsPair pair) (cache :
                   let kd = commit_kind s c i pair p.area (reverse m) own at tc (reverse z) lz bz now in
                   let lm : Legal s (change_in s.geometry c (reverse z) slot (live_word i at) ∷ reverse z) = (lz, me) in (
                     me,
-                    λ r e. pick (less * round) (changes_of s z) r (ended i (inserted.Inserted at) p) lost_then (word_at s.geometry (reverse z) slot == pending_word i at) true (same_word (word_at s.geometry (reverse z) slot) (pending_word i at) now)
+                    λ r e. pick (budget p.left less) (changes_of s z) r (ended i (inserted.Inserted at) p) lost_then (word_at s.geometry (reverse z) slot == pending_word i at) true (same_word (word_at s.geometry (reverse z) slot) (pending_word i at) now)
                         (record {
                           changing = λ _. record {
                             change = record { key = pair.key; value = Some pair.value };
@@ -609,15 +647,15 @@ module _ (s : Setting) (c tries : ℕ) (pair : Pair) (ip : IsPair pair) (cache :
                           ticket = subst (TicketFits s c st.ticket) (sym e) (ticket_firm s c st.ticket (reverse z) (change_in s.geometry c (reverse z) slot (live_word i at)) lm (mild (ap uses_lock kd)) az.ticket_now);
                         }),
                   )),
-              (λ other. pick (less * round) (changes_of s z) z (ended i (inserted.Inserted at) p) lost_then (word_at s.geometry (reverse z) slot == pending_word i at) false (other_word (word_at s.geometry (reverse z) slot) (pending_word i at) other) (lost_safe z az)),
+              (λ other. pick (budget p.left less) (changes_of s z) z (ended i (inserted.Inserted at) p) lost_then (word_at s.geometry (reverse z) slot == pending_word i at) false (other_word (word_at s.geometry (reverse z) slot) (pending_word i at) other) (lost_safe z az)),
             )))
           where
             kept_after : {z : Past} → Since c (reverse m) z → Legal s z → KeptBlock s c (packed pair.key pair.value) p.kept p.area z
             kept_after sz lz = kept_block_on s c (packed pair.key pair.value) p.kept p.area sz lz a.keeps
 
-      end_safe : (p : Part) (r : Result) (m : Entries) (d : List Change) → At p m → ResultSo s c i pair (reverse l0) (reverse m) p r → FallsBy left0 p.left r → changes_of s m ≡ d → Goes (suc X) d m (bind (on_part i p (next p) r) after)
+      end_safe : (p : Part) (r : Result) (m : Entries) (d : List Change) → At p m → ResultSo s c i pair (reverse l0) (reverse m) p r → FallsBy left0 p.left r → changes_of s m ≡ d → Goes (follows p.left) d m (bind (on_part i p (next p) r) after)
       end_safe p (to_commit own at) m d a so fb same =
-          goes_more (suc (less * round)) (suc X) d m (bind (on_part i p (next p) (to_commit own at)) after) (omega arith) (commit_safe p m own at so.0 a so.1 fb d same)
+          goes_more (suc (budget p.left less)) (follows p.left) d m (bind (on_part i p (next p) (to_commit own at)) after) (omega arith) (commit_safe p m own at so.0 a so.1 fb d same)
       end_safe p (exists_with hw) m d a so fb same = record {
         changing = λ e. absurd (false_true e);
         staying = λ e. same;
@@ -628,22 +666,22 @@ module _ (s : Setting) (c tries : ℕ) (pair : Pair) (ip : IsPair pair) (cache :
         owns = a.owns;
         ticket = a.ticket_now;
       }
-      end_safe p spent m d a so fb same = refuses_so p m d a (Again tries) refl refl refl same
+      end_safe p spent m d a so fb same = refuses_so p m d a (Again (tries - (st.left - st.left))) refl refl (all_lost tries st.left) same
       end_safe p (no_block nexts words) m d a so fb same = refuses_so p m d a (NoBlock nexts words) refl refl
           (so.0, so.1, (λ j low. let w = so.2 j low in record { at = w.at; from_then = Before-trans x0.since w.from_then; till = w.till; read = w.read; past = subst (λ v. (j + 1) * node_size s.geometry < slice_index nexts j + v) (sym so.0) w.past })) same
       end_safe p start_again m d a so fb same =
-          goes_more (less * round) (suc X) d m (bind (on_part i p (next p) start_again) after) (omega arith)
+          goes_more (budget p.left less) (follows p.left) d m (bind (on_part i p (next p) start_again) after) (omega arith)
           (next_safe p m d p.kept p.left x0.reach a a.keeps so (omega arith) (reached_before s pair.key a.later_than a.legal x0.reach x0.reached) (omega arith) same)
       end_safe p left_again m d a so fb same =
           let more = so.1 x0.reach x0.reached in
           let most = reached_most s (reverse m) a.legal pair.key (x0.reach + 1) more in
           let one = so.0 in
-          goes_more (less * round) (suc X) d m (bind (on_part i p (next p) left_again) after) (omega arith)
+          goes_more (budget p.left less) (follows p.left) d m (bind (on_part i p (next p) left_again) after) (omega arith)
           (next_safe p m d p.kept p.left (x0.reach + 1) a a.keeps so.0 fb more (omega arith) same)
       end_safe p (need_room q) m d a so fb same =
           let few = x0.few in
           let count = x0.count in
-          goes_more X (suc X) d m (after (end_with (inserted.NeedRoom q p.kept) p)) (omega arith)
+          goes_more (split_acts + loss_most * p.left + less * round) (follows p.left) d m (after (end_with (inserted.NeedRoom q p.kept) p)) (omega arith)
           (need_safe p (reverse l0) x0.reach m
           (record {
             legal = a.legal;
@@ -662,7 +700,7 @@ module _ (s : Setting) (c tries : ℕ) (pair : Pair) (ip : IsPair pair) (cache :
 
     abbrev Goes_on : ℕ → Type 0
     Goes_on n = (less : ℕ) (start kept : Option ℕ) (area : Area) (left : ℕ) (d : List Change) (l : Entries) → less ≤ rank → left ≤ st.left → (x : Now st.ticket st.full start kept area left less l) → left - 1 + (s.geometry.max_depth - x.reach) < n → changes_of s l ≡ d
-        → Goes (less * round) d l (bind (insert_from i n start kept area left) after)
+        → Goes (budget left less) d l (bind (insert_from i n start kept area left) after)
 
     -- n parts of the operation at most
     from_safe : (n : ℕ) → Goes_on n
@@ -671,20 +709,17 @@ module _ (s : Setting) (c tries : ℕ) (pair : Pair) (ip : IsPair pair) (cache :
     from_safe (suc n) zero start kept area left d l lr low x fits same = absurd (let y = x.count in omega arith)
     from_safe (suc n) (suc less) start kept area left d l lr low x fits same =
         let few = x.few in
-        subst (λ v. Goes (suc less * round) d l v) (sym (bind_twice (insert_part i start kept area left) (λ p. on_part i p (insert_from i n (Some p.table)) p.result) after))
-        (goes_more (part_verbs i - 1 + suc (acts + less * round)) (suc less * round) d l (bind (insert_part i start kept area left) (λ p. bind (on_part i p (insert_from i n (Some p.table)) p.result) after)) (enough (part_verbs i) less (omega arith) (few_left low few))
-        (call_bind s c part (insert_part i start kept area left) (λ p. bind (on_part i p (insert_from i n (Some p.table)) p.result) after) (λ y p. PartEnd s c i pair left (reverse l) y p × Going s c st.ticket (reverse l) y) Ends (part_verbs i - 1) (suc (acts + less * round)) d l
-        (part_bounded i (packed_most pair ip) start kept area left low).0 same
+        subst (λ v. Goes (budget left (suc less)) d l v) (sym (bind_twice (insert_part i start kept area left) (λ p. on_part i p (insert_from i n (Some p.table)) p.result) after))
+        (goes_more (part_most s.geometry - 1 + loss_most * left + suc (split_acts + less * round)) (budget left (suc less)) d l (bind (insert_part i start kept area left) (λ p. bind (on_part i p (insert_from i n (Some p.table)) p.result) after)) (enough (part_most s.geometry) less (omega arith))
+        (call_costs s c part (insert_part i start kept area left) (λ p. bind (on_part i p (insert_from i n (Some p.table)) p.result) after) (λ y p. PartEnd s c i pair left (reverse l) y p × Going s c st.ticket (reverse l) y) Ends (λ p. loss_most * p.left) (part_most s.geometry - 1 + loss_most * left) (suc (split_acts + less * round)) d l
+        (parts_cost i start kept area left (packed_most pair ip)) same
         (by_kept Calmly s c (Going s c st.ticket (reverse l)) (record { others = λ y en le o g. going_firm s c st.ticket (reverse l) y en le (other o) g; own = λ y en le r g. going_firm s c st.ticket (reverse l) y en le r.1 g }) (reverse l) (insert_part i start kept area left) (λ y p. PartEnd s c i pair left (reverse l) y p)
         (x.legal, (here, x.ticket_now)) (part_safe s c c pair ip st.left kept area left x.some (reverse l) x.legal start x.begin x.owns x.keeps))
         (λ m p d2 e same2. end_safe n (from_safe n) less (omega arith) start kept area left l low x fits p p.result m d2
         (record { legal = e.1.0; later_than = e.1.1.0; ticket_now = e.1.1.1; start = e.0.start; owns = e.0.owns; keeps = e.0.kept }) e.0.so e.0.falls same2)))
       where
-        few_left : left ≤ st.left → left ≤ tries → part_verbs i + acts ≤ round
-        few_left a b = let z = st_few in omega arith
-
-        enough : (v n : ℕ) → 1 ≤ v → v + acts ≤ round → v - 1 + suc (acts + n * round) ≤ suc n * round
-        enough v n one h = let z = suc-mul n round in omega arith
+        enough : (v n : ℕ) → 1 ≤ v → v - 1 + loss_most * left + suc (split_acts + n * (v + split_acts)) ≤ loss_most * left + suc n * (v + split_acts)
+        enough v n one = let z = suc-mul n (v + split_acts) in omega arith
 
     -- a stage begins with an act
     begins : (n : ℕ) → 1 ≤ n → (start kept : Option ℕ) (area : Area) (left : ℕ) → goes_on part (bind (insert_from i n start kept area left) after) ≡ bind (insert_from i n start kept area left) after
@@ -696,17 +731,17 @@ module _ (s : Setting) (c tries : ℕ) (pair : Pair) (ip : IsPair pair) (cache :
     enough_parts : (left reach m f : ℕ) → 1 ≤ left → f ≤ reach → left - 1 + (m - reach) < left + (m - f)
     enough_parts left reach m f one le = omega arith
 
-    stage : (d : List Change) (m : Entries) (x : From rank m st) → s.geometry.first_depth ≤ x.reach → changes_of s m ≡ d → SafeCall (judged s c part) (rank * round) d m (part (inserting who pair st)) Ends
+    stage : (d : List Change) (m : Entries) (x : From rank m st) → s.geometry.first_depth ≤ x.reach → changes_of s m ≡ d → SafeCall (judged s c part) (budget st.left rank) d m (part (inserting who pair st)) Ends
     stage d m x deep same =
         let one = x.some in
-        subst (λ v. SafeCall (judged s c part) (rank * round) d m v Ends) (begins (parts_of i) (omega arith) st.start st.kept st.area st.left)
+        subst (λ v. SafeCall (judged s c part) (budget st.left rank) d m v Ends) (begins (parts_of i) (omega arith) st.start st.kept st.area st.left)
         (from_safe (parts_of i) rank st.start st.kept st.area st.left d m (at_most rank) (at_most st.left) x (let y = enough_parts st.left x.reach s.geometry.max_depth s.geometry.first_depth x.some deep in omega arith) same)
       where
         at_most : (n : ℕ) → n ≤ n
         at_most n = omega arith
 
   -- each stage, by its rank
-  stage_safe : (most rank : ℕ) → rank ≤ most → (d : List Change) (m : Entries) (st : Inserting) → From rank m st → changes_of s m ≡ d → SafeCall (judged s c part) (rank * round) d m (part (inserting who pair st)) Ends
+  stage_safe : (most rank : ℕ) → rank ≤ most → (d : List Change) (m : Entries) (st : Inserting) → From rank m st → changes_of s m ≡ d → SafeCall (judged s c part) (budget st.left rank) d m (part (inserting who pair st)) Ends
   stage_safe zero rank le d m st x same = absurd (let y = x.count in omega arith)
   stage_safe (suc most) rank le d m st x same =
       ⊎_elim (λ (low : x.reach < s.geometry.first_depth).
@@ -739,14 +774,20 @@ module _ (s : Setting) (c tries : ℕ) (pair : Pair) (ip : IsPair pair) (cache :
   abbrev st0 : Inserting
   st0 = record { start = entry_of cache h; kept = None; left = tries; full = None; forgotten = []; area = area0; ticket = ticket0 }
 
-  none : (less : ℕ) (d : List Change) (m : Entries) (st2 : Inserting) → less < 0 → From less m st2 → changes_of s m ≡ d → SafeCall (judged s c part) (less * round) d m (part (inserting who pair st2)) Ends
+  none : (less : ℕ) (d : List Change) (m : Entries) (st2 : Inserting) → less < 0 → From less m st2 → changes_of s m ≡ d → SafeCall (judged s c part) (budget st2.left less) d m (part (inserting who pair st2)) Ends
   none less d m st2 lt x same = absurd (omega (arith, lt))
 
-  pub insert_call_safe : IsLegal s first → MayCall s c k call first → IsSafeWithin (insert_acts s.geometry tries) s c k call first
+  -- so many parts with a split
+  abbrev ranks : ℕ
+  ranks = tries + (s.geometry.max_depth - s.geometry.first_depth) + 2
+
+  pub insert_call_safe : IsLegal s first → MayCall s c k call first → IsSafeWithin (call_most s.geometry tries) s c k call first
   insert_call_safe lg m =
       let one = m.some in
-      subst (λ v. SafeCall (judged s c part) (insert_acts s.geometry tries) (changes_of s first) first v Ends) (sym (begins st0 0 none (at_most tries) (parts_of (i st0 0 none (at_most tries))) (omega arith) (entry_of cache h) None area0 tries))
-      (stage_safe (tries + (s.geometry.max_depth - s.geometry.first_depth) + 2) (tries + (s.geometry.max_depth - s.geometry.first_depth) + 2) (at_most (tries + (s.geometry.max_depth - s.geometry.first_depth) + 2)) (changes_of s first) first st0
+      let fit = parts_fit s.geometry tries in
+      subst (λ v. SafeCall (judged s c part) (call_most s.geometry tries) (changes_of s first) first v Ends) (sym (begins st0 0 none (at_most tries) (parts_of (i st0 0 none (at_most tries))) (omega arith) (entry_of cache h) None area0 tries))
+      (SafeCall-more (judged s c part) Ends (budget tries ranks) (call_most s.geometry tries) (changes_of s first) first (part (inserting who pair st0)) (omega (arith, fit))
+      (stage_safe ranks ranks (at_most ranks) (changes_of s first) first st0
       (record {
         legal = lg;
         since = here;
@@ -760,7 +801,7 @@ module _ (s : Setting) (c tries : ℕ) (pair : Pair) (ip : IsPair pair) (cache :
         reached = reached_first s (reverse first) lg pair.key;
         seen = tt;
         count = few_ranks tries (s.geometry.max_depth - s.geometry.first_depth) ticket0 m.some;
-      }) refl)
+      }) refl))
     where
       at_most : (n : ℕ) → n ≤ n
       at_most n = omega arith
@@ -773,5 +814,5 @@ module _ (s : Setting) (c tries : ℕ) (pair : Pair) (ip : IsPair pair) (cache :
 pub insert_is_safe_call : InsertIsSafe
 insert_is_safe_call s c k key value l lg m =
     let e = state_is s c k m.fits.geometry m.fits.client in
-    subst (λ (v : State). IsSafeWithin (insert_acts s.geometry v.tries) s c v (Insert key value) l) (sym e)
+    subst (λ (v : State). IsSafeWithin (call_most s.geometry v.tries) s c v (Insert key value) l) (sym e)
     (insert_call_safe s c k.tries (record { key = key; value = value }) m.is_call k.cache k.ticket k.area l lg (subst (λ v. MayCall s c v (Insert key value) l) e m))

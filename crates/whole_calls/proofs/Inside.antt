@@ -1,16 +1,20 @@
--- An operation inside a whole call: a program that is safe as a call of one part, and then what follows its outcome.
-use Rattle.std.specs.Prelude.{ℕ, zero, suc, ◌+◌, List, reverse}
+-- A program inside a whole call: one that is safe as a call of one part, and one that changes nothing in the map, and then what follows
+-- its outcome.
+use Rattle.std.specs.Prelude.{◌≡◌, ℕ, zero, suc, ◌+◌, List, reverse}
 use Rattle.std.proofs.Common.{subst, arith}
 use Rattle.kv_block.specs.declared.changes.Change.{Change}
 use Rattle.verb_log.specs.Tables.{Past}
-use Rattle.verbs.specs.Programs.{do_verb, ask_hash, Prog, ret, ask, bind, Go, goes_on}
+use Rattle.verbs.specs.Programs.{do_verb, ask_hash, Prog, ret, ask, bind, Go, goes_on, Costs}
 use Rattle.verbs.specs.Logs.{Entries}
 use Rattle.verbs.specs.Calls.{SafeCall}
-use Rattle.verbs.proofs.Calls.{SafeCall-more}
-use Rattle.verbs.proofs.Safes.{MayDo-map}
+use Rattle.verbs.proofs.Calls.{SafeCall-more, SafeCall-bind_costs}
+use Rattle.verbs.proofs.Safes.{MayDo-map, Safe-end}
 use Rattle.race_laws.specs.Setting.{Setting, hash}
-use Rattle.log_facts.specs.Among.{among, changes_of}
+use Rattle.log_facts.specs.Among.{among, changes_of, quiet_among}
 use Rattle.log_facts.specs.Beside.{Firm}
+use Rattle.log_facts.specs.Entries.{Unchanging}
+use Rattle.pass_laws.specs.SafeIn.{SafeBy}
+use Rattle.pass_laws.proofs.Bridge.{by_quiet}
 use Rattle.call_laws.specs.Judged.{judged, as_call, no_part, SafeOnce}
 use Rattle.call_laws.proofs.Mildly.{kept_call}
 use Rattle.call_laws.proofs.Once.{goes_as_call}
@@ -39,3 +43,13 @@ pub op_inside : {S A X : Type 0} (s : Setting) (c : ℕ) (part : S → Prog (Go 
 op_inside s c part f Mid End P firm k n b l p now h follows =
     call_inside s c part f (λ b2 m x. Mid b2 m x × P (reverse m)) End n (λ b2 m x y. follows b2 m x y.0 y.1) k b l p
     (kept_call s c P firm no_part Mid k b l (as_call p) now h)
+
+-- a program that is safe newest first and changes nothing in the map, and then what follows each outcome, which may cost so many acts
+pub quiet_costs : {S A X : Type 0} (s : Setting) (c : ℕ) (part : S → Prog (Go S A)) (p : Prog X) (f : X → Prog (Go S A)) (EndIn : Past → X → Type 0) (End : List Change → Entries → A → Type 0) (cost : X → ℕ)
+    → (k n : ℕ) (b : List Change) (l : Entries) → Costs cost k p → changes_of s l ≡ b → SafeBy Unchanging s c (reverse l) p EndIn
+    → ((m : Entries) (x : X) (d : List Change) → EndIn (reverse m) x → changes_of s m ≡ d → SafeCall (judged s c part) (cost x + n) d m (goes_on part (f x)) End)
+    → SafeCall (judged s c part) (k + n) b l (goes_on part (bind p f)) End
+quiet_costs s c part p f EndIn End cost k n b l w same h go =
+    SafeCall-bind_costs (judged s c part) End p f cost k n b l w same
+    (Safe-end (quiet_among s c) (hash s) l p (λ m x. EndIn (reverse m) x) (λ m x. (d : List Change) → changes_of s m ≡ d → SafeCall (judged s c part) (cost x + n) d m (goes_on part (f x)) End)
+    (λ m x e d q. go m x d e q) (by_quiet Unchanging s c (λ q e r. r) l p EndIn h))

@@ -1,6 +1,6 @@
 -- A whole resize: goes on with a ticket, or walks and splits.
-use Rattle.std.specs.Prelude.{◌≡◌, ℕ, zero, suc, ◌+◌, ◌-◌, ◌*◌, ◌%◌, ◌^◌, ◌<◌, ◌≤◌, ◌==◌, Bool, true, false, cond, List, ◌∷◌, [], reverse, Option, Some, None, refl}
-use Rattle.std.proofs.Common.{sym, ◌∙◌, ap, subst, arith}
+use Rattle.std.specs.Prelude.{◌≡◌, ℕ, zero, suc, ◌+◌, ◌-◌, ◌*◌, ◌%◌, ◌^◌, ◌<◌, ◌≤◌, ◌==◌, Bool, true, false, cond, List, [], reverse, Option, Some, None, refl}
+use Rattle.std.proofs.Common.{sym, ◌∙◌, ap, subst, inr, arith}
 use Rattle.std.proofs.lemmas.Bool.Decides.{nat_tests}
 use Rattle.std.proofs.lemmas.Nat.{mod_below, pow_pos}
 use Rattle.std.proofs.Math.Nat.{suc-mul}
@@ -10,13 +10,13 @@ use Rattle.map_model.specs.declared.calls.Call.TheVariants.{Resize}
 use Rattle.map_model.specs.declared.calls.Reply.{Reply}
 use Rattle.map_model.specs.declared.calls.Reply.TheVariants.{Split, Again, FullDepth, FullWords}
 use Rattle.map_model.specs.Machine.{is_change, is_quiet}
+use Rattle.node_words.specs.declared.geometry.Geometry.{Geometry}
 use Rattle.verb_log.specs.Decoded.{header_of}
 use Rattle.verb_log.specs.Tables.{Past, Before, here, later}
 use Rattle.verb_log.proofs.Positions.{Before-trans}
 use Rattle.verbs.specs.Logs.{Entries}
-use Rattle.verbs.specs.Programs.{Prog, ret, bind, Go, done, goes_on}
+use Rattle.verbs.specs.Programs.{Prog, ret, bind, Go, done, goes_on, Costs}
 use Rattle.verbs.specs.Calls.{SafeCall}
-use Rattle.verbs.proofs.Progs.{Within-more}
 use Rattle.verbs.proofs.Calls.{SafeCall-more}
 use Rattle.race_laws.specs.Setting.{Setting, hash}
 use Rattle.race_laws.specs.Legal.{Legal}
@@ -53,19 +53,20 @@ use Rattle.split_text.specs.declared.resized.ResizeEnd.{ResizeEnd}
 use Rattle.split_text.specs.declared.resized.ResizeOutcome.{ResizeOutcome}
 use Rattle.split_text.specs.declared.resized.ResizeOutcome.TheVariants as split
 use Rattle.split_text.specs.Text.{resize, resume}
-use Rattle.split_text.specs.Bound.{resize_acts}
-use Rattle.split_text.proofs.Bounds.{resume-within}
-use Rattle.split_text.proofs.Whole.{resize-within}
 use Rattle.begin_laws.specs.Law.{MaySplit}
 use Rattle.split_laws.specs.Ticket.{Fits}
 use Rattle.split_laws.specs.Law.{SplitBy, EndSo, Fewer, HasSplit, ResumedSo, HasResumed}
 use Rattle.split_laws.proofs.Whole.{whole_safe, resume_safe}
 use Rattle.call_texts.specs.State.{State, Caller, caller_of, CallEnd, Stage, walking}
 use Rattle.call_texts.specs.Text.{part_of, split_job, walk_job, after_own, after_walk, walk_part, resize_call}
-use Rattle.call_texts.specs.Bound.{resize_round, resize_most}
+use Rattle.call_texts.specs.Bound.{split_most, round_most, call_most}
+use Rattle.call_bounds.specs.Bound.{loss_most}
+use Rattle.call_bounds.proofs.Splits.{splits_cost, resumes_cost}
+use Rattle.call_bounds.proofs.Fitting.{rounds_fit}
 use Rattle.whole_calls.specs.Fits.{TicketFits}
 use Rattle.whole_calls.specs.Right.{Right, Cause}
 use Rattle.whole_calls.specs.Law.{IsSafeWithin, MayCall, ResizeIsSafe}
+use Rattle.whole_calls.proofs.Inside.{quiet_costs}
 use Rattle.whole_calls.proofs.Points.{false_true, told, own_state, state_is, may_walk}
 use Rattle.whole_calls.proofs.Depths.{Full, full_on}
 use Rattle.whole_calls.proofs.Inserting.{plain_head, plain_not, head_depth, unseen}
@@ -93,11 +94,16 @@ module _ (s : Setting) (c tries : ℕ) (key : List ℕ) (bytes : AreBytes key) (
   abbrev Goes : ℕ → List Change → Entries → Prog (Go Stage CallEnd) → Type 0
   Goes n b l p = SafeCall (judged s c part) n b l (goes_on part p) Ends
 
-  abbrev acts : ℕ
-  acts = resize_acts s.geometry tries
+  abbrev split_acts : ℕ
+  split_acts = split_most s.geometry
 
+  -- a walk and a split, but for the lost swaps
   abbrev round : ℕ
-  round = resize_round s.geometry tries
+  round = most_verbs s.geometry.max_depth + split_acts
+
+  -- so many of them more, while so many swaps may be lost
+  abbrev budget : ℕ → ℕ → ℕ
+  budget left parts = loss_most * left + parts * round
 
   answered : (split : Option ℕ) (reply : Reply) (t : Option ℕ) (ticket : Option Ticket) (d : List Change) (m : Entries) → is_change reply ≡ false → is_quiet reply ≡ false → Cause s c (Resize key) k (reverse first) (reverse m) reply → ((u : ℕ) → t ≡ Some u → Start s.geometry (reverse m) h u) → Owns s c area (reverse m) → TicketFits s c ticket (reverse m) → changes_of s m ≡ d
       → Ends d m (record { reply = reply; source = 0; target = 0; hash = h; table = t; forgotten = []; split = split; area = area; ticket = ticket })
@@ -119,7 +125,7 @@ module _ (s : Setting) (c tries : ℕ) (key : List ℕ) (bytes : AreBytes key) (
       answered (Some u) (Split u e) t None b y refl refl (subst (λ x. SplitBy s c x e (reverse y)) (sym eu) (subst (λ x. SplitBy s c v x (reverse y)) (sym ee) sb)) st ow tt same
 
   -- the split of a ticket has ended
-  resume_ends : (tk : Ticket) (y : Entries) (b : List Change) → Owns s c area (reverse y) → (r : ResizeEnd) (o : ResizeOutcome) → ResumedSo s c tk.site.table tk.site.depth (reverse y) r.left o → changes_of s y ≡ b → Goes 0 b y (after_own who key area None r.left o)
+  resume_ends : (tk : Ticket) (y : Entries) (b : List Change) → Owns s c area (reverse y) → (r : ResizeEnd) (o : ResizeOutcome) → ResumedSo s c tk.site.table tk.site.depth (reverse y) r.left o → changes_of s y ≡ b → Goes (loss_most * r.left + 0) b y (after_own who key area None r.left o)
   resume_ends tk y b ow r (split.Split u d) so same = split_done None tk.site.table tk.site.depth u d b y so.0 so.1 so.2 (λ w q. absurd (cc)) ow same
   resume_ends tk y b ow r (split.Again (Some ticket)) so same = answered None (Again tries) None (Some ticket) b y refl refl refl (λ w q. absurd (cc)) ow so.0 same
   resume_ends tk y b ow r split.Changed so same = absurd so
@@ -127,16 +133,13 @@ module _ (s : Setting) (c tries : ℕ) (key : List ℕ) (bytes : AreBytes key) (
   resume_ends tk y b ow r (split.Again None) so same = absurd so
   resume_ends tk y b ow r (split.FullWords next need) so same = absurd so
 
-  resume_call_safe : (tk : Ticket) → Legal s (reverse first) → Owns s c area (reverse first) → Fits s c tk (reverse first) → 1 ≤ tries → Goes (acts + 0) (changes_of s first) first (bind (resume tk tries) (λ r. after_own who key area None r.left r.outcome))
+  resume_call_safe : (tk : Ticket) → Legal s (reverse first) → Owns s c area (reverse first) → Fits s c tk (reverse first) → 1 ≤ tries → Goes (split_acts + loss_most * tries + 0) (changes_of s first) first (bind (resume tk tries) (λ r. after_own who key area None r.left r.outcome))
   resume_call_safe tk l ow ft some =
-      quiet_bind s c part (resume tk tries) (λ r. after_own who key area None r.left r.outcome) (λ y r. HasResumed s c tk.site.table tk.site.depth tries (reverse first) y r) Ends acts 0 (changes_of s first) first
-      (Within-more (resize_acts tk.geometry tries) acts (resume tk tries) (subst (λ (g : _). resize_acts g tries ≤ acts) (sym ft.geometry) (at_most acts)) (resume-within tk tries)) refl
+      quiet_costs s c part (resume tk tries) (λ r. after_own who key area None r.left r.outcome) (λ y r. HasResumed s c tk.site.table tk.site.depth tries (reverse first) y r) Ends (λ r. loss_most * r.left) (split_acts + loss_most * tries) 0 (changes_of s first) first
+      (subst (λ (g : Geometry). Costs (λ (r : ResizeEnd). loss_most * r.left) (split_most g + loss_most * tries) (resume tk tries)) ft.geometry (resumes_cost tk tries some)) refl
       (subst (λ v. SafeBy Unchanging s v (reverse first) (resume tk tries) (λ y r. HasResumed s v tk.site.table tk.site.depth tries (reverse first) y r)) ft.client
       (resume_safe s tk (reverse first) l (subst (λ v. Fits s v tk (reverse first)) (sym ft.client) ft) tries some))
       (λ y r b g same. resume_ends tk y b (g.untouched area.at area.left ow).0 r r.outcome g.so same)
-    where
-      at_most : (n : ℕ) → n ≤ n
-      at_most n = omega arith
 
   -- what a walk starts with
   record Now (rank : ℕ) (l : Entries) (start : Option ℕ) (left : ℕ) : Type 0 where
@@ -151,11 +154,12 @@ module _ (s : Setting) (c tries : ℕ) (key : List ℕ) (bytes : AreBytes key) (
     full : Option ℕ
     seen : Full s key (reverse l) full
     count : left - 1 + (s.geometry.max_depth - reach) + unseen full < rank
+    no_ticket : ticket0 ≡ None
 
   abbrev walk_from : Option ℕ → ℕ → Prog (Go Stage CallEnd)
   walk_from start left = walk_part who key area start left
 
-  module _ (less : ℕ) (l0 : Entries) (start0 : Option ℕ) (left0 : ℕ) (x : Now (suc less) l0 start0 left0) (ih : (d : List Change) (m : Entries) (start : Option ℕ) (left : ℕ) → Now less m start left → changes_of s m ≡ d → SafeCall (judged s c part) (less * round) d m (part (walking who key start left area)) Ends) where
+  module _ (less : ℕ) (l0 : Entries) (start0 : Option ℕ) (left0 : ℕ) (x : Now (suc less) l0 start0 left0) (ih : (d : List Change) (m : Entries) (start : Option ℕ) (left : ℕ) → Now less m start left → changes_of s m ≡ d → SafeCall (judged s c part) (budget left less) d m (part (walking who key start left area)) Ends) where
     module _ (p : Passed) (m : Entries) (l : Legal s (reverse m)) (bm : Before (reverse l0) (reverse m)) (st : Start s.geometry (reverse m) h p.table) (ow : Owns s c area (reverse m)) (w : StayedAt s key (reverse l0) (reverse m) p) where
       abbrev job : SplitJob
       job = split_job who p.table p.head.depth
@@ -166,12 +170,12 @@ module _ (s : Setting) (c tries : ℕ) (key : List ℕ) (bytes : AreBytes key) (
           record { geometry = refl; table = a.0; suffix = a.1 ∙ ap (λ v. h % 2 ^ v) (head_depth p.head); low = mod_below h (2 ^ p.head.depth) (pow_pos p.head.depth) }
 
       start_less : (y : Entries) (b : List Change) (left reach : ℕ) (full : Option ℕ) → Legal s (reverse y) → Before (reverse m) (reverse y) → Owns s c area (reverse y) → 1 ≤ left → left ≤ tries → Reached s key (reverse y) reach → Full s key (reverse y) full → left - 1 + (s.geometry.max_depth - reach) + unseen full < less → changes_of s y ≡ b
-          → SafeCall (judged s c part) (less * round) b y (part (walking who key (Some p.table) left area)) Ends
+          → SafeCall (judged s c part) (budget left less) b y (part (walking who key (Some p.table) left area)) Ends
       start_less y b left reach full ly by2 owy some few rc fs count same =
-          ih b y (Some p.table) left (record { legal = ly; since = Before-trans x.since (Before-trans bm by2); begin = start_before s by2 ly h p.table st; owns = owy; some = some; few = few; reach = reach; reached = rc; full = full; seen = fs; count = count }) same
+          ih b y (Some p.table) left (record { legal = ly; since = Before-trans x.since (Before-trans bm by2); begin = start_before s by2 ly h p.table st; owns = owy; some = some; few = few; reach = reach; reached = rc; full = full; seen = fs; count = count; no_ticket = x.no_ticket }) same
 
       own_ends : is_plain_at s.geometry.max_depth p.head ≡ false → (y : Entries) (b : List Change) → Legal s (reverse y) → Before (reverse m) (reverse y) → Owns s c area (reverse y) → (r : ResizeEnd) (o : ResizeOutcome) → EndSo s c (reverse m) p.table p.head.depth (reverse y) r.left o → Fewer left0 r.left o → changes_of s y ≡ b
-          → Goes (less * round) b y (after_own who key area (Some p.table) r.left o)
+          → Goes (budget r.left less) b y (after_own who key area (Some p.table) r.left o)
       own_ends nf y b ly by2 owy r (split.Split u d) so le same = split_done (Some p.table) p.table p.head.depth u d b y so.0 so.1 so.2 (λ w2 q. told (Start s.geometry (reverse y) h) p.table w2 q (start_before s by2 ly h p.table st)) owy same
       own_ends nf y b ly by2 owy r split.Locked so le same =
           let few = x.few in
@@ -186,7 +190,7 @@ module _ (s : Setting) (c tries : ℕ) (key : List ℕ) (bytes : AreBytes key) (
           (λ w2 q. told (Start s.geometry (reverse y) h) p.table w2 q (start_before s by2 ly h p.table st)) owy tt same
       own_ends nf y b ly by2 owy r split.Changed so le same = by (p.head.depth == s.geometry.max_depth) refl
         where
-          at_top : p.head.depth ≡ s.geometry.max_depth → (o : Option ℕ) → x.full ≡ o → Full s key (reverse l0) o → SafeCall (judged s c part) (less * round) b y (part (walking who key (Some p.table) r.left area)) Ends
+          at_top : p.head.depth ≡ s.geometry.max_depth → (o : Option ℕ) → x.full ≡ o → Full s key (reverse l0) o → SafeCall (judged s c part) (budget r.left less) b y (part (walking who key (Some p.table) r.left area)) Ends
           at_top t None o g =
               let one = ap unseen o in
               let few = x.few in
@@ -198,7 +202,7 @@ module _ (s : Setting) (c tries : ℕ) (key : List ℕ) (bytes : AreBytes key) (
           low_depth : (a top : ℕ) → a ≤ top → (a == top) ≡ false → a < top
           low_depth a top e t = grind (arith, nat_tests, t)
 
-          by : (v : Bool) → (p.head.depth == s.geometry.max_depth) ≡ v → SafeCall (judged s c part) (less * round) b y (part (walking who key (Some p.table) r.left area)) Ends
+          by : (v : Bool) → (p.head.depth == s.geometry.max_depth) ≡ v → SafeCall (judged s c part) (budget r.left less) b y (part (walking who key (Some p.table) r.left area)) Ends
           by true t = at_top (equal_test p.head.depth s.geometry.max_depth t) x.full refl x.seen
           by false t =
               let few = x.few in
@@ -214,19 +218,20 @@ module _ (s : Setting) (c tries : ℕ) (key : List ℕ) (bytes : AreBytes key) (
       legally : Holds Unchanging s c Legally
       legally = record { others = λ y en le o g. (le, later g.1); own = λ y en le r g. (le, later g.1) }
 
-      walked_safe : (d : List Change) → changes_of s m ≡ d → Goes (acts + less * round) d m (after_walk who key area left0 p)
+      -- a split, and then what follows while so many swaps may be lost
+      abbrev splitting : ℕ
+      splitting = split_acts + loss_most * left0 + less * round
+
+      walked_safe : (d : List Change) → changes_of s m ≡ d → Goes splitting d m (after_walk who key area left0 p)
       walked_safe d same = by (is_plain_at s.geometry.max_depth p.head) refl
         where
-          acts_more : (n : ℕ) → n ≤ tries → resize_acts s.geometry n ≤ acts
-          acts_more n le = omega arith
-
-          by : (v : Bool) → is_plain_at s.geometry.max_depth p.head ≡ v → Goes (acts + less * round) d m (cond v (ret (done (record { reply = FullDepth s.geometry.max_depth; source = 0; target = 0; hash = h; table = Some p.table; forgotten = []; split = None; area = area; ticket = None }))) (bind (resize job left0) (λ r. after_own who key area (Some p.table) r.left r.outcome)))
+          by : (v : Bool) → is_plain_at s.geometry.max_depth p.head ≡ v → Goes splitting d m (cond v (ret (done (record { reply = FullDepth s.geometry.max_depth; source = 0; target = 0; hash = h; table = Some p.table; forgotten = []; split = None; area = area; ticket = None }))) (bind (resize job left0) (λ r. after_own who key area (Some p.table) r.left r.outcome)))
           by true v = answered None (FullDepth s.geometry.max_depth) (Some p.table) None d m refl refl
-              (refl, record { at = w.at; from_then = Before-trans x.since w.from_then; till = w.till; table = p.table; plain = w.head ∙ plain_head s.geometry.max_depth p.head v }, tt)
+              (refl, (record { at = w.at; from_then = Before-trans x.since w.from_then; till = w.till; table = p.table; plain = inr (w.head ∙ plain_head s.geometry.max_depth p.head v) }, x.no_ticket))
               (λ w2 q. told (Start s.geometry (reverse m) h) p.table w2 q st) ow tt same
           by false v =
-              quiet_bind s c part (resize job left0) (λ r. after_own who key area (Some p.table) r.left r.outcome) (λ y r. HasSplit s c p.table p.head.depth left0 (reverse m) y r × Legally y) Ends acts (less * round) d m
-              (Within-more (resize_acts s.geometry left0) acts (resize job left0) (acts_more left0 x.few) (resize-within job left0 s.geometry.few)) same
+              quiet_costs s c part (resize job left0) (λ r. after_own who key area (Some p.table) r.left r.outcome) (λ y r. HasSplit s c p.table p.head.depth left0 (reverse m) y r × Legally y) Ends (λ r. loss_most * r.left) (split_acts + loss_most * left0) (less * round) d m
+              (splits_cost job left0 x.some) same
               (by_kept Unchanging s c Legally legally (reverse m) (resize job left0) (λ y r. HasSplit s c p.table p.head.depth left0 (reverse m) y r) (l, here) (whole_safe s job (reverse m) l may_split left0 x.some))
               (λ y r b g same2. own_ends v y b g.1.0 g.1.1 (g.0.untouched area.at area.left ow).0 r r.outcome g.0.so g.0.fewer same2)
 
@@ -239,46 +244,54 @@ module _ (s : Setting) (c tries : ℕ) (key : List ℕ) (bytes : AreBytes key) (
     walk_ends p Gone m opened b so = absurd so
     walk_ends p Spent m opened b so = absurd so
 
-    round_safe : (d : List Change) → changes_of s l0 ≡ d → Goes (suc less * round) d l0 (walk_from start0 left0)
+    round_safe : (d : List Change) → changes_of s l0 ≡ d → Goes (budget left0 (suc less)) d l0 (walk_from start0 left0)
     round_safe d same =
-        SafeCall-more (judged s c part) Ends (pass_verbs (walk_job who key) + (acts + less * round)) (suc less * round) d l0 (goes_on part (walk_from start0 left0)) (enough (most_verbs s.geometry.max_depth) less)
-        (quiet_bind s c part (pass (walk_job who key) start0) (after_walk who key area left0) (λ y p. HasPassed s key Walk (reverse l0) y p × Kept y) Ends (pass_verbs (walk_job who key)) (acts + less * round) d l0
+        SafeCall-more (judged s c part) Ends (pass_verbs (walk_job who key) + (split_acts + loss_most * left0 + less * round)) (budget left0 (suc less)) d l0 (goes_on part (walk_from start0 left0)) (enough (most_verbs s.geometry.max_depth) less)
+        (quiet_bind s c part (pass (walk_job who key) start0) (after_walk who key area left0) (λ y p. HasPassed s key Walk (reverse l0) y p × Kept y) Ends (pass_verbs (walk_job who key)) (split_acts + loss_most * left0 + less * round) d l0
         (pass-within (walk_job who key) start0 s.geometry.deep) same
         (by_weaker (Drops Walk) s c Unchanging (λ y en r. absurd r) (reverse l0) (pass (walk_job who key) start0) (λ y p. HasPassed s key Walk (reverse l0) y p × Kept y) (λ y p. HasPassed s key Walk (reverse l0) y p × Kept y) (λ n a z. z)
         (by_kept (Drops Walk) s c Kept (record { others = λ y en le o g. (le, (later g.1.0, mine_others s y en le c area.at area.left o g.1.1)); own = λ y en le r g. absurd r }) (reverse l0) (pass (walk_job who key) start0) (λ y p. HasPassed s key Walk (reverse l0) y p)
         (x.legal, (here, x.owns)) (pass_safe s c (walk_job who key) (record { geometry = refl; hash = refl; bytes = bytes }) start0 (reverse l0) x.legal x.begin)))
         (λ m p d2 e same2. walked_safe p m e.1.0 e.1.1.0 e.0.start e.1.1.1 (walk_ends p p.end m e.0.opened e.0.from_then e.0.so) d2 same2))
       where
-        enough : (v n : ℕ) → v + 138 * 0 + (resize_acts s.geometry tries + n * (v + resize_acts s.geometry tries)) ≤ suc n * (v + resize_acts s.geometry tries)
-        enough v n = let z = suc-mul n (v + resize_acts s.geometry tries) in omega arith
+        enough : (v n : ℕ) → v + 138 * 0 + (split_acts + loss_most * left0 + n * (v + split_acts)) ≤ loss_most * left0 + suc n * (v + split_acts)
+        enough v n = let z = suc-mul n (v + split_acts) in omega arith
 
   -- a walk begins with an act
   begins : (start : Option ℕ) (left : ℕ) → goes_on part (walk_from start left) ≡ walk_from start left
   begins None left = refl
   begins (Some t) left = refl
 
-  walk_safe : (rank : ℕ) (d : List Change) (m : Entries) (start : Option ℕ) (left : ℕ) → Now rank m start left → changes_of s m ≡ d → SafeCall (judged s c part) (rank * round) d m (part (walking who key start left area)) Ends
+  walk_safe : (rank : ℕ) (d : List Change) (m : Entries) (start : Option ℕ) (left : ℕ) → Now rank m start left → changes_of s m ≡ d → SafeCall (judged s c part) (budget left rank) d m (part (walking who key start left area)) Ends
   walk_safe zero d m start left x same = absurd (let y = x.count in omega arith)
   walk_safe (suc less) d m start left x same =
-      subst (λ v. SafeCall (judged s c part) (suc less * round) d m v Ends) (begins start left) (round_safe less m start left x (λ d2 m2 start2 left2 y e2. walk_safe less d2 m2 start2 left2 y e2) d same)
+      subst (λ v. SafeCall (judged s c part) (budget left (suc less)) d m v Ends) (begins start left) (round_safe less m start left x (λ d2 m2 start2 left2 y e2. walk_safe less d2 m2 start2 left2 y e2) d same)
 
   few_ranks : (t n : ℕ) → 1 ≤ t → t - 1 + n + 1 < t + n + 1
   few_ranks t n one = omega arith
 
+  -- so many walks
+  abbrev ranks : ℕ
+  ranks = tries + (s.geometry.max_depth - s.geometry.first_depth) + 1
+
+  ranks_fit : budget tries ranks ≤ call_most s.geometry tries
+  ranks_fit = let fit = rounds_fit ranks tries round (round_most s.geometry) (tries + 2 * s.geometry.max_depth + 4) (omega arith) (omega arith) (omega arith) in omega (arith, fit)
+
   resize_safe : Legal s (reverse first) → MayCall s c k (Resize key) first → (o : Option Ticket) → ticket0 ≡ o → TicketFits s c o (reverse first)
-      → Goes (resize_most s.geometry tries) (changes_of s first) first (resize_call who key (entry_of cache h) area o)
+      → Goes (call_most s.geometry tries) (changes_of s first) first (resize_call who key (entry_of cache h) area o)
   resize_safe lg m (Some tk) e ft =
-      SafeCall-more (judged s c part) Ends (acts + 0) (resize_most s.geometry tries) (changes_of s first) first (goes_on part (bind (resume tk tries) (λ r. after_own who key area None r.left r.outcome))) (one_round (tries + (s.geometry.max_depth - s.geometry.first_depth)))
-      (resume_call_safe tk lg m.fits.owns ft m.some)
+      SafeCall-more (judged s c part) Ends (split_acts + loss_most * tries + 0) (call_most s.geometry tries) (changes_of s first) first (goes_on part (bind (resume tk tries) (λ r. after_own who key area None r.left r.outcome)))
+      (let fit = ranks_fit in let one = one_round (tries + (s.geometry.max_depth - s.geometry.first_depth)) in omega (arith, fit, one)) (resume_call_safe tk lg m.fits.owns ft m.some)
     where
-      one_round : (n : ℕ) → acts + 0 ≤ (n + 1) * round
-      one_round n = let z = suc-mul n round in let w = add_one n round in omega arith
+      one_round : (n : ℕ) → split_acts ≤ (n + 1) * round
+      one_round n = let w = add_one n round in omega arith
         where
           add_one : (n r : ℕ) → (n + 1) * r ≡ n * r + r
           add_one n r = omega arith
   resize_safe lg m None e ft =
-      subst (λ v. SafeCall (judged s c part) (resize_most s.geometry tries) (changes_of s first) first v Ends) (sym (begins (entry_of cache h) tries))
-      (walk_safe (tries + (s.geometry.max_depth - s.geometry.first_depth) + 1) (changes_of s first) first (entry_of cache h) tries
+      subst (λ v. SafeCall (judged s c part) (call_most s.geometry tries) (changes_of s first) first v Ends) (sym (begins (entry_of cache h) tries))
+      (SafeCall-more (judged s c part) Ends (budget tries ranks) (call_most s.geometry tries) (changes_of s first) first (part (walking who key (entry_of cache h) tries area)) ranks_fit
+      (walk_safe ranks (changes_of s first) first (entry_of cache h) tries
       (record {
         legal = lg;
         since = here;
@@ -291,7 +304,8 @@ module _ (s : Setting) (c tries : ℕ) (key : List ℕ) (bytes : AreBytes key) (
         full = None;
         seen = tt;
         count = few_ranks tries (s.geometry.max_depth - s.geometry.first_depth) m.some;
-      }) refl)
+        no_ticket = e;
+      }) refl))
     where
       at_most : (n : ℕ) → n ≤ n
       at_most n = omega arith
@@ -300,5 +314,5 @@ module _ (s : Setting) (c tries : ℕ) (key : List ℕ) (bytes : AreBytes key) (
 pub resize_is_safe_call : ResizeIsSafe
 resize_is_safe_call s c k key l lg m =
     let e = state_is s c k m.fits.geometry m.fits.client in
-    subst (λ (v : State). IsSafeWithin (resize_most s.geometry v.tries) s c v (Resize key) l) (sym e)
+    subst (λ (v : State). IsSafeWithin (call_most s.geometry v.tries) s c v (Resize key) l) (sym e)
     (resize_safe s c k.tries key m.is_call k.cache k.ticket k.area l lg (subst (λ v. MayCall s c v (Resize key) l) e m) k.ticket refl m.fits.ticket)

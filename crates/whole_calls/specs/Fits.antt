@@ -1,9 +1,9 @@
 -- When what a client keeps from call to call fits a log.
-use Rattle.std.specs.Prelude.{◌≡◌, ℕ, ◌%◌, ◌^◌, Option, Some, None, ◌⊎◌}
+use Rattle.std.specs.Prelude.{◌≡◌, ℕ, Option, Some, None}
 use Rattle.verb_log.specs.Tables.{Past}
 use Rattle.race_laws.specs.Setting.{Setting}
 use Rattle.race_laws.specs.Legal.{Legal}
-use Rattle.dir_cache.specs.Cached.{Cached, entry_of}
+use Rattle.dir_cache.specs.Cached.{entry_of}
 use Rattle.log_facts.specs.Start.{Start}
 use Rattle.log_facts.specs.Since.{Since}
 use Rattle.block_taking.specs.Holdings.{Owns}

@@ -1,5 +1,5 @@
 -- What is proved of whole calls.
-use Rattle.std.specs.Prelude.{◌≡◌, ℕ, ◌^◌, ◌<◌, ◌≤◌, List, reverse}
+use Rattle.std.specs.Prelude.{ℕ, ◌^◌, ◌<◌, ◌≤◌, List, reverse}
 use Rattle.kv_block.specs.Bytes.{AreBytes}
 use Rattle.kv_block.specs.Packing.{IsPair}
 use Rattle.kv_block.specs.declared.changes.Change.{Change}
@@ -17,7 +17,7 @@ use Rattle.pass_text.specs.Bound.{most_verbs}
 use Rattle.call_laws.specs.Judged.{judged}
 use Rattle.call_texts.specs.State.{State, CallEnd, state_after}
 use Rattle.call_texts.specs.Text.{part_of, begin_call}
-use Rattle.call_texts.specs.Bound.{call_most, insert_acts, resize_most}
+use Rattle.call_texts.specs.Bound.{call_most}
 use Rattle.whole_calls.specs.Fits.{StateFits}
 use Rattle.whole_calls.specs.Right.{Right}
 
@@ -59,10 +59,10 @@ DeleteIsSafe = (s : Setting) (c : ℕ) (k : State) (key : List ℕ) (l : Entries
 abbrev pub UpdateIsSafe : Type 0
 UpdateIsSafe = (s : Setting) (c : ℕ) (k : State) (key value : List ℕ) (l : Entries) → IsLegal s l → MayCall s c k (Update key value) l → IsSafeWithin (call_most s.geometry k.tries) s c k (Update key value) l
 
--- each insert is safe within so many acts, with or without a ticket
+-- each insert is safe within B, with or without a ticket
 abbrev pub InsertIsSafe : Type 0
-InsertIsSafe = (s : Setting) (c : ℕ) (k : State) (key value : List ℕ) (l : Entries) → IsLegal s l → MayCall s c k (Insert key value) l → IsSafeWithin (insert_acts s.geometry k.tries) s c k (Insert key value) l
+InsertIsSafe = (s : Setting) (c : ℕ) (k : State) (key value : List ℕ) (l : Entries) → IsLegal s l → MayCall s c k (Insert key value) l → IsSafeWithin (call_most s.geometry k.tries) s c k (Insert key value) l
 
--- each resize is safe within so many acts, with or without a ticket
+-- each resize is safe within B, with or without a ticket
 abbrev pub ResizeIsSafe : Type 0
-ResizeIsSafe = (s : Setting) (c : ℕ) (k : State) (key : List ℕ) (l : Entries) → IsLegal s l → MayCall s c k (Resize key) l → IsSafeWithin (resize_most s.geometry k.tries) s c k (Resize key) l
+ResizeIsSafe = (s : Setting) (c : ℕ) (k : State) (key : List ℕ) (l : Entries) → IsLegal s l → MayCall s c k (Resize key) l → IsSafeWithin (call_most s.geometry k.tries) s c k (Resize key) l

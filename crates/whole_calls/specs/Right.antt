@@ -1,10 +1,10 @@
 -- When a call is answered rightly.
-use Rattle.std.specs.Prelude.{◌≡◌, ℕ, ◌<◌, ◌≤◌, true, false, List, [], ◌∷◌, ◌++◌, length, reverse, slice_index, Some}
+use Rattle.std.specs.Prelude.{◌≡◌, ℕ, ◌<◌, ◌≤◌, true, false, List, [], ◌∷◌, ◌++◌, length, reverse, slice_index, None, Some, ◌⊎◌}
 use Rattle.slot_word.specs.declared.slots.Mark.TheVariants.{Live}
 use Rattle.kv_block.specs.declared.changes.Change.{Change}
 use Rattle.kv_block.specs.Packing.{Pair, packed}
 use Rattle.map_model.specs.declared.calls.Call.{Call}
-use Rattle.map_model.specs.declared.calls.Call.TheVariants.{Insert, Update}
+use Rattle.map_model.specs.declared.calls.Call.TheVariants.{Insert, Update, Resize}
 use Rattle.map_model.specs.declared.calls.Reply.{Reply}
 use Rattle.map_model.specs.declared.calls.Reply.TheVariants.{Inserted, Updated, Deleted, Split, Again, FullDepth, FullWords, NoBlock}
 use Rattle.map_model.specs.Machine.{key_of, reply_of, map_at, change_of, is_change, is_quiet}
@@ -14,7 +14,7 @@ use Rattle.verb_log.specs.Decoded.{Body, Full, PlainAt, content}
 use Rattle.verb_log.specs.Tables.{Past, Before}
 use Rattle.verbs.specs.Logs.{Entries}
 use Rattle.race_laws.specs.Setting.{Setting, hash}
-use Rattle.race_laws.specs.Standing.{key_header}
+use Rattle.race_laws.specs.Standing.{header_in, key_header}
 use Rattle.log_facts.specs.Start.{Start}
 use Rattle.log_facts.specs.Among.{changes_of}
 use Rattle.pass_text.specs.declared.passed.Passed.{Passed}
@@ -59,7 +59,7 @@ pub record AtPoint (s : Setting) (call : Call) (first l : Entries) (reply : Repl
   pub most : point ≤ length (changes_of s l)
   pub answers : reply_of (map_at (changes_of s l) point) call ≡ Some reply
 
--- the last part of an insert found no candidate free, in a table whose last header it told
+-- the last part of an insert found each candidate of a table occupied
 pub record NoPlace (s : Setting) (c : ℕ) (call : Call) (from q : Past) : Type 0 where
   pub pair : Pair
   pub is : call ≡ Insert pair.key pair.value
@@ -71,13 +71,19 @@ pub record NoPlace (s : Setting) (c : ℕ) (call : Call) (from q : Past) : Type 
   pub tries : ℕ
   pub none : NoRoom s (inserting_of s c pair tries) since till passed
 
--- at a position by the key's header of a table that table was plain at the greatest depth
+-- at a position a table was plain at the greatest depth, by its header or by the key's
 pub record FullTable (s : Setting) (key : List ℕ) (from q : Past) : Type 0 where
   pub at : Past
   pub from_then : Before from at
   pub till : Before at q
   pub table : ℕ
-  pub plain : key_header s at table key ≡ PlainAt s.geometry.max_depth
+  pub plain : (header_in s.geometry at table ≡ PlainAt s.geometry.max_depth) ⊎ (key_header s at table key ≡ PlainAt s.geometry.max_depth)
+
+-- .. before the candidates of that table were read, each of which is occupied
+pub record FullPlace (s : Setting) (c : ℕ) (call : Call) (from q : Past) : Type 0 where
+  pub no_place : NoPlace s c call from q
+  pub full : FullTable s (key_of call) from no_place.none.look.opened
+  pub there : full.table ≡ no_place.passed.table
 
 -- the words of the block that a call writes
 abbrev pub block_words : Call → ℕ
@@ -85,17 +91,24 @@ block_words (Insert key value) = length (packed key value)
 block_words (Update key value) = length (packed key value)
 block_words _ = 0
 
--- an insert had no place for its key
+-- Inserts alone have no place for a key, and resizes want none; no other call wants room.
 abbrev pub HadNoPlace : Setting → ℕ → Call → Past → Past → Type 0
 HadNoPlace s c (Insert key value) from q = NoPlace s c (Insert key value) from q
-HadNoPlace s c _ from q = Unit {0}
+HadNoPlace s c (Resize key) from q = Unit {0}
+HadNoPlace s c _ from q = ⊥
+
+abbrev pub WasFullDepth : Setting → ℕ → Call → State → Past → Past → Type 0
+WasFullDepth s c (Insert key value) k from q = FullPlace s c (Insert key value) from q
+WasFullDepth s c (Resize key) k from q = FullTable s key from q × (k.ticket ≡ None)
+WasFullDepth s c _ k from q = ⊥
 
 -- what is known of why a call was refused, or which split it did. Again: the number told is that of the swaps that might be lost.
--- FullDepth: a table was plain at the greatest depth by the key's header. NoBlock, FullWords: at positions of the call the next word of
--- each node was the listed number, and so many words more go past that node's end.
+-- FullDepth: a table was plain at the greatest depth; for an insert it was read so before its candidates were, each of which is
+-- occupied, and for a resize the client has no ticket. NoBlock, FullWords: at positions of the call the next word of each node was the
+-- listed number, and so many words more go past that node's end; for FullWords of an insert each candidate of a table is occupied.
 abbrev pub Cause : Setting → ℕ → Call → State → Past → Past → Reply → Type 0
 Cause s c call k from q (Again lost) = lost ≡ k.tries
-Cause s c call k from q (FullDepth depth) = (depth ≡ s.geometry.max_depth) × FullTable s (key_of call) from q × HadNoPlace s c call from q
+Cause s c call k from q (FullDepth depth) = (depth ≡ s.geometry.max_depth) × WasFullDepth s c call k from q
 Cause s c call k from q (NoBlock next need) =
     (need ≡ block_words call) × (length next ≡ s.geometry.nodes) × ((n : ℕ) → n < s.geometry.nodes → WasFull s from q n (slice_index next n) need)
 Cause s c call k from q (FullWords next need) =

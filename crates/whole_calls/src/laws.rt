@@ -25,12 +25,12 @@ pub fn law_update_call()
     ensures { UpdateIsSafe }
 {}
 
-/// Each insert of a client whose state fits, with its splits, is safe within a bound of its own, and its answer is right.
+/// Each insert of a client whose state fits, with its splits, is safe within B, and its answer is right.
 pub fn law_insert_call()
     ensures { InsertIsSafe }
 {}
 
-/// Each resize of a client whose state fits is safe within a bound of its own, and its answer is right.
+/// Each resize of a client whose state fits is safe within B, and its answer is right.
 pub fn law_resize_call()
     ensures { ResizeIsSafe }
 {}
