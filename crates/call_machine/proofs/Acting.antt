@@ -108,5 +108,6 @@ insert-acts w insert.Exists h = refl
 insert-acts w insert.NeedRoom h = refl
 insert-acts w insert.Again h = refl
 insert-acts w insert.NoBlock h = refl
+insert-acts w insert.Out h = refl
 
 pub ruleset acting = (pass-acts, search-acts, delete-acts, update-acts, insert-acts)

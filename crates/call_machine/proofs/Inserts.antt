@@ -20,7 +20,7 @@ use Rattle.block_taking.specs.declared.taking.TakeEnd.{TakeEnd}
 use Rattle.block_taking.specs.Text.{take_block, take_at, take_from, write_words, write_block, need, end_of, first_node, next_node, behind}
 use Rattle.op_insert.specs.declared.end.InsertOutcome.TheVariants.{Inserted}
 use Rattle.op_insert.specs.declared.end.InsertEnd.{InsertEnd}
-use Rattle.op_insert.specs.Text.{Inserting, Part, Result, to_commit, exists_with, start_again, left_again, spent, no_block, need_room, pending_word, ended, ends_again, on_part, insert_from, parts_of, insert, look_of, sweep_of, choice_of, slot_in, after_loss, on_swept, after_sweep, place_block, on_taken, after_taking, take_and_place, choose_plain, on_parent_slot, on_parent_word, choose_filling, help_from, is_plain_at, help, choose_by_parent, on_looked, after_look, insert_part}
+use Rattle.op_insert.specs.Text.{Inserting, Part, Result, to_commit, exists_with, start_again, left_again, spent, no_block, need_room, pending_word, ended, ends_again, on_part, insert_from, parts_of, insert, look_of, sweep_of, choice_of, slot_in, after_loss, on_swept, after_sweep, place_block, on_taken, after_taking, take_and_place, on_parent_slot, on_parent_word, choose_filling, help_from, is_plain_at, help, choose_by_parent, choose_among, on_looked, after_look, insert_part}
 use Rattle.call_machine.specs.Spare.{InsertSpares}
 use Rattle.call_machine.proofs.Ways.{either, words, any}
 use Rattle.call_machine.proofs.Sweeps.{GoneBelow, pass-keep}
@@ -111,10 +111,6 @@ module _ (i : Inserting) where
   takes-keep t own None area left le =
       Outcomes-bind (λ (e : TakeEnd). TakesSo e.left e.outcome) (λ (part : Part). Keeps part.left part.result) (take_block i.taking area left) (after_taking i t own) (take-keep i.taking area left le) (λ e h. taken-keep t own e e.outcome h)
 
-  plain-keep : (p : Passed) (o kept : Option ℕ) (area : Area) (left : ℕ) → 1 ≤ left → PartKeeps (choose_plain i p o kept area left)
-  plain-keep p None kept area left le = le
-  plain-keep p (Some x) kept area left le = takes-keep p.table (slot_in i p.table x) kept area left le
-
   parent-keep : (e word : ℕ) (not_free good : Prog Part) → PartKeeps not_free → PartKeeps good → PartKeeps (on_parent_word i e not_free good word)
   parent-keep e word not_free good a b = part_either (word == 0) good (on_parent_slot i e not_free good (slot_of word)) (λ v. b) (λ v. of (slot_of word))
     where
@@ -130,15 +126,19 @@ module _ (i : Inserting) where
   filling-keep p u (suc n) free (Some x) kept area left le = λ word.
       parent-keep p.head.depth word _ _ (filling-keep p u n (slice_set free x false) (choice_of i (slice_set free x false)) kept area left le) (takes-keep p.table (slot_in i p.table x) kept area left le)
 
-  by_parent-keep : (p : Passed) (o kept : Option ℕ) (area : Area) (left : ℕ) → 1 ≤ left → PartKeeps (choose_by_parent i p o kept area left)
-  by_parent-keep p None kept area left le = plain-keep p (choice_of i p.free) kept area left le
-  by_parent-keep p (Some u) kept area left le = help-keep i.job.geometry (address_of u) (p.head.depth - 1) _ (filling-keep p (address_of u) 28 p.free (choice_of i p.free) kept area left le)
+  by_parent-keep : (p : Passed) (x : ℕ) (o kept : Option ℕ) (area : Area) (left : ℕ) → 1 ≤ left → PartKeeps (choose_by_parent i p x o kept area left)
+  by_parent-keep p x None kept area left le = takes-keep p.table (slot_in i p.table x) kept area left le
+  by_parent-keep p x (Some u) kept area left le = help-keep i.job.geometry (address_of u) (p.head.depth - 1) _ (filling-keep p (address_of u) 28 p.free (choice_of i p.free) kept area left le)
+
+  among-keep : (p : Passed) (o kept : Option ℕ) (area : Area) (left : ℕ) → 1 ≤ left → PartKeeps (choose_among i p o kept area left)
+  among-keep p None kept area left le = le
+  among-keep p (Some x) kept area left le = part_either (is_filling p.head.state) _ _ (λ v. by_parent-keep p x p.parent kept area left le) (λ v. takes-keep p.table (slot_in i p.table x) kept area left le)
 
   looked-keep : (kept : Option ℕ) (area : Area) (left : ℕ) (p : Passed) (e : PassEnd) → 1 ≤ left → PartKeeps (on_looked i kept area left p e)
   looked-keep kept area left p (Held h) le = tt
   looked-keep kept area left p Gone le = tt
   looked-keep kept area left p Spent le = tt
-  looked-keep kept area left p Clear le = part_either (is_filling p.head.state) _ _ (λ v. by_parent-keep p p.parent kept area left le) (λ v. plain-keep p (choice_of i p.free) kept area left le)
+  looked-keep kept area left p Clear le = among-keep p (choice_of i p.free) kept area left le
 
   part-keep : (start kept : Option ℕ) (area : Area) (left : ℕ) → 1 ≤ left → PartKeeps (insert_part i start kept area left)
   part-keep start kept area left le =

@@ -1,5 +1,5 @@
 //! How a call ends, by the operation that has ended with its answer.
-ghost use Rattle.std.specs.Prelude.{◌≡◌, ◌<◌, ◌^◌, ℕ, Option, Some, None, IfSome, option_map};
+ghost use Rattle.std.specs.Prelude.{◌≡◌, ◌<◌, ◌-◌, ◌^◌, ℕ, Option, Some, None, IfSome, option_map};
 ghost use Rattle.verbs.specs.Programs.{answer_of};
 ghost use Rattle.map_model.specs.declared.calls.Reply.TheVariants.{Again};
 ghost use Rattle.call_texts.specs.Text.{block_of};
@@ -117,7 +117,7 @@ pub fn insert_end(task: &Task, end: &InsertEnd) -> End
             End::at(reply, table, end.area, task.ticket).after(task.forgotten)
         }
         InsertOutcome::Again | InsertOutcome::NeedRoom { .. } => {
-            End::at(again(task), table, end.area, task.ticket).after(task.forgotten)
+            End::at(again_after(task, end.lost), table, end.area, task.ticket).after(task.forgotten)
         }
     }
 }
@@ -185,6 +185,16 @@ pub fn full_end(task: &Task) -> End
         depth: task.geometry.max_depth,
     };
     End::at(reply, Some(task.table), task.area, None).after(task.forgotten)
+}
+
+// So many swaps were lost in the last part, and those that were not left before it.
+fn again_after(task: &Task, lost: u32) -> Reply
+    ensures { result ≡ Again (task.now.tries - (task.now.left - lost)) }
+{
+    let left = task.left.saturating_sub(lost);
+    Reply::Again {
+        lost: task.tries.saturating_sub(left),
+    }
 }
 
 // As many swaps were lost as might be.

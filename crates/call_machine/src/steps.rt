@@ -288,6 +288,21 @@ impl Op {
         }
     }
 
+    // Another part begins, where the operation has ended so that one does. A part is kilobytes: it has a function of its own, so that
+    // the verbs within a part do not clear the room for one.
+    #[inline(never)]
+    #[tactic(auto, using(crate::proofs::Parts::onward))]
+    fn begin_part(&mut self, task: &mut Task)
+        requires { HasSpare task.old self.old }
+        ensures rest { rest_of task.new self.new ≡ goes_on part_of (rest_of task.old self.old) }
+        ensures fits { CallFits task.new self.new }
+        ensures caller { caller_in task.new ≡ caller_in task.old }
+    {
+        if let Some(next) = self.follow(task) {
+            *self = next;
+        }
+    }
+
     /// Another part begins, where the operation has ended so that one does.
     #[inline(always)]
     #[tactic(auto, using(crate::proofs::Parts::onward))]
@@ -300,8 +315,6 @@ impl Op {
         if self.is_settled() {
             return;
         }
-        if let Some(next) = self.follow(task) {
-            *self = next;
-        }
+        self.begin_part(task);
     }
 }
