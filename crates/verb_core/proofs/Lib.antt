@@ -6,6 +6,7 @@ mod Played
 mod Caught
 mod Turns
 pub mod Traces
+mod Losing
 mod One
 mod OneRun
 mod OnePlay

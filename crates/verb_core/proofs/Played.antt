@@ -55,6 +55,9 @@ pub record IsTold {M : Type 0} (kind : Kind M) (s : Setting) (q : kind.sort.Text
 some_same : {X : Type 0} (a b : X) → Some a ≡ Some b → a ≡ b
 some_same a b e = cc
 
+none_some : (d : CallEnd) → None ≡ Some d → ⊥
+none_some d e = cc
+
 -- where the client stands in the new lists
 own_at : {M : Type 0} (kind : Kind M) (s : Setting) (m : Entries) (records : List Record) (plans : List Plan) (players : List (Player M)) (c i : ℕ) (plan plan2 : Plan) (next p2 : Player M) → i ≡ c → slice_get plans c ≡ Some plan → slice_get plans i ≡ Some plan2 → c < length players → slice_get (slice_set players c next) i ≡ Some p2 → IsPlaying kind s m records c plan next → IsPlaying kind s m records i plan2 p2
 own_at {M} kind s m records plans players c i plan plan2 next p2 e planned planned2 low there2 h =
@@ -62,7 +65,7 @@ own_at {M} kind s m records plans players c i plan plan2 next p2 e planned plann
     let same_plan : plan ≡ plan2 = some_same plan plan2 (sym planned ∙ ap (slice_get plans) (sym e) ∙ planned2) in
     subst (λ x. IsPlaying kind s m records x plan2 p2) (sym e) (subst (λ x. IsPlaying kind s m records c x p2) same_plan (subst (IsPlaying kind s m records c plan) same h))
 
-first_same : (C D : List Change) (lo lo2 : ℕ) (call call2 : Call) (reply reply2 : Reply) (point : ℕ) → C ≡ D → lo ≡ lo2 → call ≡ call2 → reply ≡ reply2 → IsFirst C lo call reply point → IsFirst D lo2 call2 reply2 point
+pub first_same : (C D : List Change) (lo lo2 : ℕ) (call call2 : Call) (reply reply2 : Reply) (point : ℕ) → C ≡ D → lo ≡ lo2 → call ≡ call2 → reply ≡ reply2 → IsFirst C lo call reply point → IsFirst D lo2 call2 reply2 point
 first_same C D lo lo2 call call2 reply reply2 point a b e f h =
     subst (λ x. IsFirst D lo2 call2 x point) f (subst (λ x. IsFirst D lo2 x reply point) e (subst (λ x. IsFirst D x call reply point) b (subst (λ x. IsFirst x lo call reply point) a h)))
 
@@ -134,19 +137,13 @@ module _ (M : Type 0) (kind : Kind M) (calls : AreSafe kind.sort) (s : Setting) 
             players = refl;
             tells = sym (ap (λ (o : Option CallEnd). is_some o) none);
             records = subst (λ (o : Option CallEnd). Adds s c p.answered going.lo plan.calls.items l m o records records) (sym none) refl;
+            ended = λ d e. absurd (none_some d (sym none ∙ e));
             setting = refl;
             plans = refl;
           },
           refl,
         );
       }
-
-  pub told_lo : (t : Told) (v : VerbDone true) → IsTold kind s left_of_it going.lo t → t.lo ≤ length timeline
-  told_lo t v told =
-      let a = told.lo_is in
-      let b = (now v).seen in
-      let z = ap (length {A = Change}) v.timed in
-      omega arith
 
   -- what the record of an answered call says
   pub record IsRecord (t : Told) (r : Record) : Type 0 where
@@ -240,6 +237,7 @@ module _ (M : Type 0) (kind : Kind M) (calls : AreSafe kind.sort) (s : Setting) 
             players = refl;
             tells = sym (ap (λ (o : Option CallEnd). is_some o) some);
             records = subst (λ (o : Option CallEnd). Adds s c p.answered going.lo plan.calls.items l m o records (records ++ r ∷ [])) (sym some) (r, refl, tells);
+            ended = λ x e. let same_end : d ≡ x = some_same d x (sym some ∙ e) in (cur.first, cur.began, subst (λ y. EndsWell s c call p.state cur.first (changes_of s l) m y) same_end ends);
             setting = refl;
             plans = refl;
           },

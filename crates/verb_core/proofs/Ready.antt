@@ -1,5 +1,5 @@
 -- A client that is about to do a verb.
-use Rattle.std.specs.Prelude.{◌≡◌, ℕ, ◌<◌, ◌^◌, false, List, ◌++◌, length, slice_get, Option, Some, None, option_map}
+use Rattle.std.specs.Prelude.{◌≡◌, ℕ, ◌≤◌, ◌<◌, ◌^◌, false, List, ◌++◌, length, slice_get, Option, Some, None, option_map}
 use Rattle.std.specs.Option.{option_to_list}
 use Rattle.std.proofs.Common.{sym, ◌∙◌, ap, subst, arith, get_or}
 use Rattle.std.proofs.lemmas.Option.{slice_get-get_or}
@@ -63,6 +63,10 @@ module _ {M : Type 0} (kind : Kind M) (s : Setting) (plans : List Plan) (l : Ent
         let hash = placed s.listed in
         current kind calls s l records c plan p call (going_of kind hash o) r.kept.legal mine which
         (subst (λ n. or_next kind hash n p.state (option_map (going_of kind hash) p.under_way) (Some call) ≡ Some (going_of kind hash o)) (counted ∙ ap (length {A = Change}) r.timed) begun.is) limits
+
+    -- it began at no more changes than there are
+    pub lo_low : o.lo ≤ length timeline
+    lo_low = let a = now.seen in let b = ap (length {A = Change}) r.timed in omega arith
 
     -- it may do the verb that a choice names
     pub may_go : (choice words : ℕ) → words ≡ s.geometry.words → kind.wants o.machine ≡ None → MayGo kind (placed s.listed) words choice o

@@ -1,5 +1,5 @@
 -- Where a client stands before and after its verb.
-use Rattle.std.specs.Prelude.{◌≡◌, ℕ, ◌+◌, Bool, true, false, List, Option, Some, None, is_some, refl, option_map}
+use Rattle.std.specs.Prelude.{◌≡◌, ℕ, ◌+◌, Bool, true, false, List, Option, Some, None, is_some, IsSome, refl, option_map}
 use Rattle.std.proofs.Common.{sym, ◌∙◌, ap}
 use Rattle.map_model.specs.declared.calls.Call.{Call}
 use Rattle.verb_log.specs.declared.entry.Verb.{Verb}
@@ -32,6 +32,10 @@ some_open {M} kind hash (Some o) going e = (o, refl, is (going_of kind hash o) e
 pub none_answer : {X : Type 0} (o : Option X) → false ≡ is_some o → o ≡ None
 none_answer None e = refl
 none_answer (Some d) e = absurd (cc)
+
+pub answer_there : {X : Type 0} {o : Option X} → IsSome o → (x : X) × (o ≡ Some x)
+answer_there {o = Some x} h = (x, refl)
+answer_there {o = None} h = absurd (cc)
 
 pub an_answer : {X : Type 0} (o : Option X) → true ≡ is_some o → (d : X) × (o ≡ Some d)
 an_answer None e = absurd (cc)

@@ -4,5 +4,6 @@ pub mod Kept
 pub mod Traces
 pub mod Schedules
 pub mod Drawn
+pub mod Concluded
 pub mod One
 pub mod Machine

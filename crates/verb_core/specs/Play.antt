@@ -19,6 +19,7 @@ use Rattle.call_texts.specs.State.{State, CallEnd, state_after}
 use Rattle.call_machine.specs.Fresh.{fresh_state}
 use Rattle.world_texts.specs.Bound.{most_acts}
 use Rattle.world_texts.specs.Sorts.{Kind, chosen, onward}
+use Rattle.world_texts.specs.Safety.{EndsWell}
 use Rattle.log_facts.specs.Among.{changes_of}
 
 -- a call under way: what is left of it, the changes that the log had when it began, and its verbs so far
@@ -146,6 +147,9 @@ pub record Turn {M : Type 0} (k : Kind M) (w : Play M) (c : ℕ) (e : Event) (an
   pub players : v.players ≡ slice_set w.players c next
   pub tells : answered ≡ is_some (k.sort.answer (onward k.sort (placed w.setting.listed) going.left e.choice e.answer))
   pub records : Adds w.setting c player.answered going.lo plan.calls.items w.entries v.entries (k.sort.answer (onward k.sort (placed w.setting.listed) going.left e.choice e.answer)) w.records v.records
+  -- where the call has its answer, it is right: a change, a point or a cause, and what it leaves of its client fits the log
+  pub ended : (d : CallEnd) → k.sort.answer (onward k.sort (placed w.setting.listed) going.left e.choice e.answer) ≡ Some d
+      → (first : List Entry) × (going.lo ≡ length (changes_of w.setting first)) × EndsWell w.setting c call player.state first (changes_of w.setting w.entries) v.entries d
   pub setting : v.setting ≡ w.setting
   pub plans : v.plans ≡ w.plans
 

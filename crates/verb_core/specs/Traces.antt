@@ -6,6 +6,8 @@ use Rattle.map_model.specs.declared.plans.Plan.{Plan}
 use Rattle.verb_core.specs.declared.player.Player.{Player}
 use Rattle.call_texts.specs.State.{State, CallEnd, state_after}
 use Rattle.call_machine.specs.Fresh.{fresh_state}
+use Rattle.loss_laws.specs.Loses.{lost_by}
+use Rattle.loss_laws.specs.Again.{ReplyLost}
 use Rattle.world_texts.specs.Sorts.{Kind, chosen, onward}
 use Rattle.verb_core.specs.Play.{Going, Stage, stage, AreFresh, Play, Event, Turn}
 
@@ -47,3 +49,15 @@ abbrev pub ClientTraces : {M : Type 0} → Kind M → Type 0
 ClientTraces {M} k = (tries n : ℕ) (w v : Play M) (es : List Event) → AreFresh w.setting.geometry tries n w.players → Turns k w es v
     → (i : ℕ) (plan : Plan) (p : Player M) → slice_get w.plans i ≡ Some plan → slice_get v.players i ≡ Some p
     → Lived k (placed w.setting.listed) plan.calls.items (fresh_state w.setting.geometry i tries) (events_of i es) (stage k (placed w.setting.listed) p)
+
+-- how many swaps of a trace were lost: each found another word than it expected
+abbrev pub lost_from : ℕ → List Event → ℕ
+lost_from n [] = n
+lost_from n (e ∷ es) = lost_from (lost_by e.verb e.answer n) es
+
+abbrev pub lost_in : List Event → ℕ
+lost_in es = lost_from 0 es
+
+-- the trace of a call that is answered with Again has lost as many swaps as it tells
+abbrev pub AgainTraces : {M : Type 0} → Kind M → Type 0
+AgainTraces {M} k = (hash : List ℕ → ℕ) (state : State) (call : Call) (t : List Event) (q : k.sort.Text) (d : CallEnd) → RanCall k hash (k.sort.begun hash state call) t q → k.sort.answer q ≡ Some d → ReplyLost (lost_in t) d.reply

@@ -8,6 +8,9 @@ ghost use Rattle.map_model.specs.Machine.{is_change, is_quiet, change_of, map_af
 ghost use Rattle.map_model.specs.Moments.{IsFirst};
 ghost use Rattle.verb_core.specs.Play.{Play, Event, Turn, is_idle, IsLegalPlay, unfinished_of, outstanding_of, AreFresh};
 ghost use Rattle.verb_core.specs.Drawn.{Drawn};
+ghost use Rattle.verb_core.specs.Concluded.{Concluded};
+ghost use Rattle.verb_core.specs.declared.player.Open.{Open};
+ghost use Rattle.call_texts.specs.State.{CallEnd};
 ghost use Rattle.verb_core.specs.declared.player.Player.{Player};
 ghost use Rattle.map_model.specs.declared.plans.Plan.{Plan};
 ghost use Rattle.verb_core.specs.Traces.{Turns};
@@ -19,7 +22,7 @@ use crate::player::{Player, Told};
 use call_machine::ClientState;
 use key_hash::Placer;
 use kv_block::Change;
-use map_model::{Call, Item, Items, MapMachine, Plans, Record, Records, Timeline, map_at};
+use map_model::{Call, Calls, Item, Items, MapMachine, Plans, Record, Records, Timeline, map_at};
 use node_words::Geometry;
 use std::alloc::{AllocError, Global};
 use std::marker::Model;
@@ -69,7 +72,26 @@ impl<P: Placer, M: Playable> Model for AnyWorld<P, M> {
     ghost invariant = { λ w. IsWorld M.kind (record { geometry = w.node.log.geometry; listed = P.listed w.placer }) w.plans.items w.node.log.entries w.players.items w.records.items w.timeline w.pending };
 }
 
-// Takes the pending change into the timeline. A refusal changes nothing.
+// Takes the pending change into the timeline. A refusal changes nothing. A change is a kilobyte: it has a function of its own, so
+// that verbs that made none do not clear the room for it.
+#[inline(never)]
+fn take_in(
+    alloc: Global,
+    timeline: &mut Timeline,
+    pending: &mut Option<Change>,
+) -> Result<(), AllocError>
+    ensures ok { OnOk result ((timeline.new ≡ timeline.old ++ option_to_list pending.old) × (pending.new ≡ None)) }
+    ensures err { OnErr result ((timeline.new ≡ timeline.old) × (pending.new ≡ pending.old)) }
+{
+    if let Some(change) = &*pending {
+        timeline.push(alloc, change)?;
+        *pending = None;
+    }
+    Ok(())
+}
+
+// Takes the pending change, where there is one, into the timeline.
+#[inline(always)]
 fn catch_up(
     alloc: Global,
     timeline: &mut Timeline,
@@ -78,9 +100,8 @@ fn catch_up(
     ensures ok { OnOk result ((timeline.new ≡ timeline.old ++ option_to_list pending.old) × (pending.new ≡ None)) }
     ensures err { OnErr result ((timeline.new ≡ timeline.old) × (pending.new ≡ pending.old)) }
 {
-    if let Some(change) = *pending {
-        timeline.push(alloc, &change)?;
-        *pending = None;
+    if pending.is_some() {
+        return take_in(alloc, timeline, pending);
     }
     Ok(())
 }
@@ -165,6 +186,36 @@ fn tell(timeline: &Timeline, client: u32, number: u32, call: &Call, told: &Told)
         hi,
         point,
     }
+}
+
+// Takes the call that has answered with the last verb, where the timeline has the changes before that verb: its record goes
+// to the others, where there is room for it, and its change is pending. Replies and records are kilobytes: they have a function of
+// their own, so that verbs that end no call do not clear the room for them.
+#[inline(never)]
+fn conclude<M: Playable + Drop>(
+    player: &mut Player<M>,
+    calls: &Calls,
+    client: u32,
+    timeline: &Timeline,
+    records: &mut Records,
+    pending: &mut Option<Change>,
+)
+    requires ended { (h : List ℕ → ℕ) × (o : Open M) × (player.old.under_way ≡ Some o) × (M.kind.wants o.machine ≡ None) × IsSome (M.kind.sort.answer (M.kind.text h o.machine)) }
+    requires few { player.old.answered < 2 ^ 31 }
+    requires some { player.old.answered < length calls.now.items }
+    requires lo { (o : Open M) → player.old.under_way ≡ Some o → o.lo ≤ length timeline.now }
+    requires room { 1 ≤ records.old.room }
+    ensures { (h : List ℕ → ℕ) (o : Open M) (e : CallEnd) → player.old.under_way ≡ Some o → M.kind.sort.answer (M.kind.text h o.machine) ≡ Some e
+        → Concluded client calls.now.items timeline.now o.lo e player.old player.new records.old.items records.new.items pending.new }
+{
+    let told = player.close();
+    let number = player.answered;
+    let call = calls.get(number as usize - 1);
+    let answered = tell(timeline, client, number, &call, &told);
+    let Ok(()) = records.push(answered) else {
+        unreachable!()
+    };
+    *pending = made_by(&call, &told);
 }
 
 // So many clients at the beginning of their plans.
@@ -256,14 +307,14 @@ impl<P: Placer, M: Playable + Drop> AnyWorld<P, M> {
         if !player.go(&mut self.node, &self.placer, choice) {
             return Ok(Stepped::Went);
         }
-        let told = player.close();
-        let number = player.answered;
-        let call = plan.calls.get(number as usize - 1);
-        let answered = tell(&self.timeline, client, number, &call, &told);
-        let Ok(()) = self.records.push(answered) else {
-            unreachable!()
-        };
-        self.pending = made_by(&call, &told);
+        conclude(
+            player,
+            &plan.calls,
+            client,
+            &self.timeline,
+            &mut self.records,
+            &mut self.pending,
+        );
         Ok(Stepped::Answered)
     }
 

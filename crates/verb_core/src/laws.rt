@@ -1,5 +1,5 @@
 //! The laws of plays.
-ghost use Rattle.verb_core.specs.Traces.{ClientTraces};
+ghost use Rattle.verb_core.specs.Traces.{ClientTraces, AgainTraces};
 ghost use Rattle.verb_core.specs.One.{OneRun, OneDrawn};
 
 use crate::playable::Playable;
@@ -8,6 +8,13 @@ use crate::playable::Playable;
 pub fn law_client_traces<M: Playable>()
     ensures { ClientTraces M.kind }
 {}
+
+/// The trace of a call that is answered with Again has as many swaps as it tells that found another word than they expected.
+pub fn law_again_traces<M: Playable>()
+    ensures { AgainTraces M.kind }
+{
+    M::law_safe();
+}
 
 /// Under the same choices the events of a script are one list, and so are the log, the records and where the clients stand
 /// after it.

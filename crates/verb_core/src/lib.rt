@@ -21,7 +21,7 @@ mod world;
 pub use any_world::{AnyWorld, Stepped};
 pub use call_machine::{Answer, CallMachine, ClientState};
 pub use chooser::{Chooser, First};
-pub use laws::{law_client_traces, law_one_drawn, law_one_run};
+pub use laws::{law_again_traces, law_client_traces, law_one_drawn, law_one_run};
 pub use map_model::{Item, Items, Plan, Plans};
 pub use playable::Playable;
 pub use world::World;

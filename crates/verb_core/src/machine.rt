@@ -1,5 +1,5 @@
 //! The machine of whole calls, as a world plays it: one verb is outstanding until the call has answered.
-ghost use Rattle.std.specs.Prelude.{◌≡◌, None, IsSome};
+ghost use Rattle.std.specs.Prelude.{◌≡◌, ◌||◌, None, IsSome};
 ghost use Rattle.verbs.specs.Programs.{next_act, answer_of};
 ghost use Rattle.call_machine.specs.CallRest.{call_rest};
 
@@ -18,6 +18,14 @@ fn keep_acting(machine: &CallMachine)
     let _ = machine.has_answered();
 }
 
+// Whether no hash is wanted, by whether a verb is to be done and whether the call has answered.
+#[inline(always)]
+fn wants_no_hash(has_verb: bool, has_answered: bool) -> bool
+    ensures { result ≡ (has_verb || has_answered) }
+{
+    has_verb || has_answered
+}
+
 impl Playable for CallMachine {
     ghost use Rattle.verb_core.specs.Machine.{call_kind};
 
@@ -25,6 +33,11 @@ impl Playable for CallMachine {
 
     fn start(state: &ClientState, hash: u64, call: &Call) -> CallMachine {
         CallMachine::start(state, hash, call)
+    }
+
+    #[inline(always)]
+    fn is_settled(&self) -> bool {
+        wants_no_hash(self.next().is_some(), CallMachine::has_answered(self))
     }
 
     fn asks(&self) -> Option<Key> {
@@ -35,6 +48,7 @@ impl Playable for CallMachine {
         CallMachine::told(self, hash);
     }
 
+    #[inline(always)]
     fn verb(&self, _choice: u64) -> Verb {
         keep_acting(self);
         let Some(verb) = self.next() else {
@@ -51,11 +65,13 @@ impl Playable for CallMachine {
         }
     }
 
+    #[inline(always)]
     fn complete(&mut self, _choice: u64, word: u64) {
         keep_acting(self);
         self.feed(word);
     }
 
+    #[inline(always)]
     fn has_answered(&self) -> bool {
         keep_acting(self);
         CallMachine::has_answered(self)

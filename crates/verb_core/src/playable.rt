@@ -7,7 +7,7 @@ use verb_log::Verb;
 /// A call under way. A machine knows the verbs that are outstanding, and takes the answer to any one of them. It takes no
 /// memory.
 pub trait Playable: Sized {
-    ghost use Rattle.std.specs.Prelude.{◌≡◌, ℕ, ◌<◌, ◌≤◌, List, length, Some, None, IsSome, is_some};
+    ghost use Rattle.std.specs.Prelude.{◌≡◌, ℕ, ◌<◌, ◌≤◌, List, length, Some, None, IsSome, is_some, is_none};
     ghost use Rattle.map_model.specs.Machine.{key_of};
     ghost use Rattle.call_texts.specs.State.{CallEnd, state_after};
     ghost use Rattle.world_texts.specs.Sorts.{Kind, chosen, onward};
@@ -19,6 +19,10 @@ pub trait Playable: Sized {
     /// A call at its beginning, of a client that keeps this, where its key has this hash.
     fn start(state: &ClientState, hash: u64, call: &Call) -> Self
         ensures { (h : List ℕ → ℕ) → hash ≡ h (key_of call.now) → kind.text h result ≡ kind.sort.begun h state.now call.now };
+
+    /// Whether no hash is wanted. It makes no key.
+    fn is_settled(&self) -> bool
+        ensures { result ≡ is_none (kind.wants self.now) };
 
     /// The key whose hash is wanted. None exactly where no hash is.
     fn asks(&self) -> Option<Key>

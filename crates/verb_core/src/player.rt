@@ -1,5 +1,5 @@
 //! One client of a world: where it stands in its plan.
-ghost use Rattle.std.specs.Prelude.{◌≡◌, ℕ, ◌+◌, ◌<◌, ◌≤◌, ◌^◌, List, length, Some, None, IsSome, is_some, option_map, slice_get};
+ghost use Rattle.std.specs.Prelude.{◌≡◌, ℕ, ◌+◌, ◌<◌, ◌≤◌, ◌^◌, List, length, Some, None, IsSome, is_some, is_none, false, option_map, slice_get};
 ghost use Rattle.key_hash.specs.Placing.{placed};
 ghost use Rattle.map_model.specs.Machine.{key_of};
 ghost use Rattle.verb_log.specs.declared.entry.Verb.{Verb};
@@ -60,13 +60,28 @@ fn keep_limits(call: &Call)
     }
 }
 
+// Answers the hash that the machine asks for. Keys are large: it has a function of its own, so that verbs after which no hash is
+// wanted do not clear the room for one.
+#[inline(never)]
+fn tell_hash<M: Playable, P: Placer>(machine: &mut M, placer: &P)
+    requires { is_none (M.kind.wants machine.old) ≡ false }
+    ensures text { M.kind.text (placed (P.listed placer.now)) machine.new ≡ M.kind.text (placed (P.listed placer.now)) machine.old }
+    ensures questions { M.kind.questions (placed (P.listed placer.now)) machine.new < M.kind.questions (placed (P.listed placer.now)) machine.old }
+{
+    let Some(key) = machine.asks() else {
+        unreachable!()
+    };
+    machine.told(placer.hash(&key));
+}
+
 // Answers the hashes that the machine asks for.
+#[inline(always)]
 fn settle<M: Playable, P: Placer>(machine: &mut M, placer: &P)
     ensures none { M.kind.wants machine.new ≡ None }
     ensures text { M.kind.text (placed (P.listed placer.now)) machine.new ≡ M.kind.text (placed (P.listed placer.now)) machine.old }
 {
-    while let Some(key) = machine.asks() {
-        machine.told(placer.hash(&key));
+    while !machine.is_settled() {
+        tell_hash(machine, placer);
     }
 }
 
@@ -119,7 +134,25 @@ impl<M> Player<M> {
 }
 
 impl<M: Playable + Drop> Player<M> {
+    // Begins the next call. A call under way is kilobytes: it has a function of its own, so that the verbs within a call do not
+    // clear the room for it.
+    #[inline(never)]
+    fn begin_next<P: Placer>(&mut self, calls: &Calls, placer: &P, lo: u64)
+        requires none { self.old.under_way ≡ None }
+        requires some { self.old.answered < length calls.now.items }
+        ensures state { self.new.state ≡ self.old.state }
+        ensures answered { self.new.answered ≡ self.old.answered }
+        ensures verbs { self.new.verbs ≡ self.old.verbs }
+        ensures open { (o : Open M) × (self.new.under_way ≡ Some o) × (M.kind.wants o.machine ≡ None)
+            × (or_next M.kind (placed (P.listed placer.now)) lo self.old.state (option_map (going_of M.kind (placed (P.listed placer.now))) self.old.under_way) (slice_get calls.now.items self.old.answered) ≡ Some (going_of M.kind (placed (P.listed placer.now)) o)) }
+        ensures limits { (call : Call) → slice_get calls.now.items self.old.answered ≡ Some call → IsCall call × (placed (P.listed placer.now) (key_of call) < 2 ^ 64) }
+    {
+        let call = calls.get(self.answered as usize);
+        self.under_way = Some(Open::begin(&self.state, &call, placer, lo));
+    }
+
     /// Begins the next call where none is under way.
+    #[inline(always)]
     pub(crate) fn begin<P: Placer>(&mut self, calls: &Calls, placer: &P, lo: u64)
         requires some { self.old.under_way ≡ None → self.old.answered < length calls.now.items }
         requires settled { (o : Open M) → self.old.under_way ≡ Some o → M.kind.wants o.machine ≡ None }
@@ -131,8 +164,7 @@ impl<M: Playable + Drop> Player<M> {
         ensures limits { (call : Call) → self.old.under_way ≡ None → slice_get calls.now.items self.old.answered ≡ Some call → IsCall call × (placed (P.listed placer.now) (key_of call) < 2 ^ 64) }
     {
         if self.under_way.is_none() {
-            let call = calls.get(self.answered as usize);
-            self.under_way = Some(Open::begin(&self.state, &call, placer, lo));
+            self.begin_next(calls, placer, lo);
         }
     }
 

@@ -1,5 +1,5 @@
 -- No call does 2^40 verbs.
-use Rattle.std.specs.Prelude.{ℕ, ◌+◌, ◌-◌, ◌*◌, ◌^◌, ◌≤◌}
+use Rattle.std.specs.Prelude.{ℕ, ◌+◌, ◌*◌, ◌^◌, ◌≤◌}
 use Rattle.std.proofs.Common.{arith}
 use Rattle.std.proofs.Math.Nat.{pow-le-pow_right}
 use Rattle.std.proofs.lemmas.Nat.{mul-le}
@@ -8,9 +8,8 @@ use Rattle.map_model.specs.declared.calls.Call.TheVariants.{Insert, Search, Upda
 use Rattle.node_words.specs.declared.geometry.Geometry.{Geometry}
 use Rattle.node_words.proofs.Sizes.{group_range}
 use Rattle.pass_text.specs.Bound.{most_verbs}
-use Rattle.split_text.specs.Bound.{resize_acts}
 use Rattle.call_texts.specs.State.{State}
-use Rattle.call_texts.specs.Bound.{round_most, call_most, insert_round, insert_acts, resize_round, resize_most}
+use Rattle.call_texts.specs.Bound.{round_most, call_most}
 use Rattle.world_texts.specs.Bound.{most_acts}
 
 pass_few : (g : Geometry) → most_verbs g.max_depth ≤ 70000
@@ -18,9 +17,6 @@ pass_few g = let d = g.deep in omega arith
 
 depth_few : (g : Geometry) → 2 ^ (g.max_depth + 2) ≤ 262144
 depth_few g = let d = g.deep in pow-le-pow_right {n = 2} (omega arith) {i = g.max_depth + 2} {j = 18} (omega arith)
-
-split_few : (g : Geometry) (left : ℕ) → left ≤ 64 → resize_acts g left ≤ 800000
-split_few g left h = let a = group_range g.groups g.grouped in let b = a.1 in let p = depth_few g in omega arith
 
 product_few : (a b m n : ℕ) → a ≤ m → b ≤ n → m * n ≤ 2 ^ 40 → a * b ≤ 2 ^ 40
 product_few a b m n h k most = let x = mul-le a b m n h k in omega arith
@@ -34,27 +30,11 @@ call_few g tries h =
     let q = depth_few g in
     product_few (tries + 2 * g.max_depth + 4) (round_most g) 100 1000000 (omega arith) (omega arith) (omega arith)
 
-insert_few : (g : Geometry) (tries : ℕ) → tries ≤ 64 → insert_acts g tries ≤ 2 ^ 40
-insert_few g tries h =
-    let d = g.deep in
-    let p = pass_few g in
-    let a = group_range g.groups g.grouped in
-    let b = a.1 in
-    let q = split_few g tries h in
-    product_few (tries + (g.max_depth - g.first_depth) + 2) (insert_round g tries) 100 1000000 (omega arith) (omega arith) (omega arith)
-
-resize_few : (g : Geometry) (tries : ℕ) → tries ≤ 64 → resize_most g tries ≤ 2 ^ 40
-resize_few g tries h =
-    let d = g.deep in
-    let p = pass_few g in
-    let q = split_few g tries h in
-    product_few (tries + (g.max_depth - g.first_depth) + 1) (resize_round g tries) 100 1000000 (omega arith) (omega arith) (omega arith)
-
 -- of a client that may lose no more than 64 swaps
 pub acts_few : (k : State) (call : Call) → k.tries ≤ 64 → most_acts k call ≤ 2 ^ 40
 unfolding most_acts
 acts_few k (Search key) h = let p = pass_few k.geometry in omega arith
 acts_few k (Delete key) h = call_few k.geometry k.tries h
 acts_few k (Update key value) h = call_few k.geometry k.tries h
-acts_few k (Insert key value) h = insert_few k.geometry k.tries h
-acts_few k (Resize key) h = resize_few k.geometry k.tries h
+acts_few k (Insert key value) h = call_few k.geometry k.tries h
+acts_few k (Resize key) h = call_few k.geometry k.tries h

@@ -5,4 +5,5 @@ pub mod Steps
 mod InWorlds
 pub mod Bounds
 pub mod Fitting
+mod Losses
 mod Safe

@@ -15,13 +15,14 @@ use Rattle.log_facts.proofs.Growing.{stands_legal}
 use Rattle.pass_text.specs.Bound.{most_verbs}
 use Rattle.call_texts.specs.State.{State, CallEnd, Stage}
 use Rattle.call_texts.specs.Text.{part_of, begin_call}
-use Rattle.call_texts.specs.Bound.{call_most, insert_acts, resize_most}
+use Rattle.call_texts.specs.Bound.{call_most}
 use Rattle.whole_calls.specs.Fits.{FreshFits, StaysFitting}
 use Rattle.whole_calls.specs.Right.{Right}
 use Rattle.whole_calls.specs.Law.{IsCall, IsSafeWithin, MayCall, LeavesFitting, SearchIsSafe, DeleteIsSafe, UpdateIsSafe, InsertIsSafe, ResizeIsSafe}
 use Rattle.world_texts.specs.Bound.{most_acts}
 use Rattle.world_texts.specs.Fits.{Fits}
 use Rattle.world_texts.specs.Safety.{SafeCall, EndsWell, CallsAreSafe, AreSafe}
+use Rattle.world_texts.specs.Losses.{AgainIsLost}
 use Rattle.world_texts.specs.Texts.{whole, one_by_one}
 use Rattle.world_texts.proofs.Wholes.{whole-goes_on}
 use Rattle.world_texts.proofs.Opening.{part_asks, begun_open}
@@ -47,8 +48,8 @@ module _ (fresh : FreshFits) (stay : StaysFitting) (leave : LeavesFitting) (sear
   within s l c k (Search key) st may g = subst (λ (x : Geometry). IsSafeWithin (most_verbs x.max_depth) s c k (Search key) l) (sym g) (searches s c k key l (stands_legal s l st) may)
   within s l c k (Delete key) st may g = subst (λ (x : Geometry). IsSafeWithin (call_most x k.tries) s c k (Delete key) l) (sym g) (deletes s c k key l (stands_legal s l st) may)
   within s l c k (Update key value) st may g = subst (λ (x : Geometry). IsSafeWithin (call_most x k.tries) s c k (Update key value) l) (sym g) (updates s c k key value l (stands_legal s l st) may)
-  within s l c k (Insert key value) st may g = subst (λ (x : Geometry). IsSafeWithin (insert_acts x k.tries) s c k (Insert key value) l) (sym g) (inserts s c k key value l (stands_legal s l st) may)
-  within s l c k (Resize key) st may g = subst (λ (x : Geometry). IsSafeWithin (resize_most x k.tries) s c k (Resize key) l) (sym g) (resizes s c k key l (stands_legal s l st) may)
+  within s l c k (Insert key value) st may g = subst (λ (x : Geometry). IsSafeWithin (call_most x k.tries) s c k (Insert key value) l) (sym g) (inserts s c k key value l (stands_legal s l st) may)
+  within s l c k (Resize key) st may g = subst (λ (x : Geometry). IsSafeWithin (call_most x k.tries) s c k (Resize key) l) (sym g) (resizes s c k key l (stands_legal s l st) may)
 
   begun_safe : CallsAreSafe one_by_one
   begun_safe s l c k call st is small f = (
@@ -56,5 +57,5 @@ module _ (fresh : FreshFits) (stay : StaysFitting) (leave : LeavesFitting) (sear
     call_safe (most_acts k call) s l c k call st f (within s l c k call st (may_call s l c k call is small f) f.state.geometry),
   )
 
-  pub calls_safe : AreSafe one_by_one
-  calls_safe = record { calls = begun_safe; longer = fits_longer fresh stay leave; first = fits_first fresh stay leave }
+  pub calls_safe : AgainIsLost one_by_one → AreSafe one_by_one
+  calls_safe lost = record { calls = begun_safe; longer = fits_longer fresh stay leave; first = fits_first fresh stay leave; losses = lost }

@@ -3,3 +3,4 @@ pub mod Bound
 pub mod Fits
 pub mod Safety
 pub mod Texts
+pub mod Losses

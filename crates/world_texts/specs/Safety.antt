@@ -18,6 +18,7 @@ use Rattle.whole_calls.specs.Law.{IsCall}
 use Rattle.world_texts.specs.Bound.{most_acts}
 use Rattle.world_texts.specs.Fits.{Fits}
 use Rattle.world_texts.specs.Sorts.{Sort}
+use Rattle.world_texts.specs.Losses.{AgainIsLost}
 
 -- where a call has ended its end holds, else it goes on
 abbrev pub Ends : Option CallEnd → (CallEnd → Type 0) → Type 0 → Type 0
@@ -59,3 +60,4 @@ pub record AreSafe (k : Sort) : Type 0 where
   pub calls : CallsAreSafe k
   pub longer : StayFit
   pub first : FirstFit
+  pub losses : AgainIsLost k

@@ -1,4 +1,4 @@
-use Rattle.std.proofs.Common.{◌≡◌, ◌<◌, ◌-◌, ◌+◌, List, ◌∷◌, [], ◌++◌, length, sym, ap, subst, refl, ◌∙◌, arith}
+use Rattle.std.proofs.Common.{◌≡◌, ◌<◌, ◌≤◌, ◌+◌, List, ◌∷◌, [], ◌++◌, length, sym, ap, subst, refl, ◌∙◌, arith}
 use Rattle.std.specs.Prelude.{IsSome, slice_set, true, false}
 use Rattle.key_hash.specs.Placing.{placed}
 use Rattle.node_words.specs.declared.geometry.Geometry.{Geometry}
@@ -12,8 +12,10 @@ use Rattle.verb_core.specs.Play.{Play, going_of}
 use Rattle.verb_core.specs.Schedules.{IsIdle, left_in}
 use Rattle.verb_core.proofs.Caught.{caught_up, kept_world, timed_none, turn_told}
 use Rattle.verb_core.proofs.Stages.{Gone, Closed, turned_on, turned_done, ended_with}
-use Rattle.verb_core.proofs.Ready.{there_at, ready_at, call_below, few, settled, opened, may_go}
-use Rattle.verb_core.proofs.Played.{IsTold, IsRecord, verbed_from, went, ended, told_lo, only_open, none_open, same_call, told_quiet}
+use Rattle.verb_core.specs.declared.player.Told.{Told}
+use Rattle.verb_core.specs.declared.player.Open.{Open}
+use Rattle.verb_core.proofs.Ready.{there_at, ready_at, one_open, call_below, few, settled, opened, may_go, lo_low}
+use Rattle.verb_core.proofs.Played.{IsTold, IsRecord, verbed_from, went, ended, only_open, none_open, same_call, told_quiet}
 use Rattle.verb_core.proofs.any_world.AnyWorld.advance.Goals as goal
 
 pub returns-then-is_idle-clause-idle : goal.returns-then-is_idle-clause-idle
@@ -212,8 +214,8 @@ returns-then-not-go-clause-fewer g c =
     let h = went g.row.M.Denot kind c.law_safe.ensures s plans l m players records timeline client plan p n o.call choice (going_of kind hash o.o) q.2.word v in
     λ _. subst (λ (w : Play g.row.M.Denot). left_in (record { setting = record { geometry = c.go.new.node.log.geometry; listed = s.listed }; plans = plans; entries = m; players = slice_set players client n; records = c.reserve-2.new.self.items }) client < left_in w client) c.self.view_is h.fewer
 
-pub close-told-requires-clause-ended : goal.close-told-requires-clause-ended
-close-told-requires-clause-ended g c =
+pub conclude-requires-clause-ended : goal.conclude-requires-clause-ended
+conclude-requires-clause-ended g c =
     let kind = g.M.Playable.kind in
     let hash = placed (g.P.Placer.listed c.self.inside.placer) in
     let s : Setting = record { geometry = c.self.inside.node.log.geometry; listed = g.P.Placer.listed c.self.inside.placer } in
@@ -242,8 +244,8 @@ close-told-requires-clause-ended g c =
     let e = ended_with kind hash node.log.geometry node.client node.log.entries m c.len-lo.result o.call p c.begin.new.self n o.o q.0 choice q.2 in
     (hash, q.0, q.1, q.2.settled, subst (λ y. IsSome y) (sym e.1) refl)
 
-pub close-told-requires-clause-few : goal.close-told-requires-clause-few
-close-told-requires-clause-few g c =
+pub conclude-requires-clause-few : goal.conclude-requires-clause-few
+conclude-requires-clause-few g c =
     let kind = g.M.Playable.kind in
     let hash = placed (g.P.Placer.listed c.self.inside.placer) in
     let s : Setting = record { geometry = c.self.inside.node.log.geometry; listed = g.P.Placer.listed c.self.inside.placer } in
@@ -261,8 +263,8 @@ close-told-requires-clause-few g c =
     let same = c.go.ensures.answered ∙ c.begin.ensures.answered in
     omega arith
 
-pub get-call-requires : goal.get-call-requires
-get-call-requires g c =
+pub conclude-requires-clause-some : goal.conclude-requires-clause-some
+conclude-requires-clause-some g c =
     let kind = g.M.Playable.kind in
     let hash = placed (g.P.Placer.listed c.self.inside.placer) in
     let s : Setting = record { geometry = c.self.inside.node.log.geometry; listed = g.P.Placer.listed c.self.inside.placer } in
@@ -276,13 +278,12 @@ get-call-requires g c =
     let p = c.index_mut-player.result.now in
     let low : client < length players = subst (λ (w : Play g.row.M.Denot). client < length w.players) (sym c.self.view_is) c.requires in
     let r = ready_at kind s plans l players records c.self.inside.timeline c.self.inside.pending timeline client plan c.index-player.result.now p c.self.invariant c.in_ok-catch_up.ensures.ok.0 low c.get-plan.ensures c.index-player.ensures c.index_mut-player.ensures.value (sym c.is_idle.ensures ∙ c.if-is_idle.false) in
-    let x = c.close-told.new.self in
-    let number : x.answered ≡ p.answered + 1 = c.close-told.ensures.answered ∙ ap (λ k. k + 1) (c.go.ensures.answered ∙ c.begin.ensures.answered) in
+    let number = c.go.ensures.answered ∙ c.begin.ensures.answered in
     let h = call_below kind s plans l players records timeline client plan p r in
     omega arith
 
-pub tell-answered-requires : goal.tell-answered-requires
-tell-answered-requires g c =
+pub conclude-requires-clause-lo : goal.conclude-requires-clause-lo
+conclude-requires-clause-lo g c = λ y under.
     let kind = g.M.Playable.kind in
     let hash = placed (g.P.Placer.listed c.self.inside.placer) in
     let s : Setting = record { geometry = c.self.inside.node.log.geometry; listed = g.P.Placer.listed c.self.inside.placer } in
@@ -309,13 +310,9 @@ tell-answered-requires g c =
     let geometry2 : c.go.new.node.log.geometry ≡ s.geometry = c.go.ensures.geometry ∙ geometry in
     let kept : c.reserve-2.new.self.items ≡ records = c.reserve-2.ensures.items in
     let e = ended_with kind hash node.log.geometry node.client node.log.entries m c.len-lo.result o.call p c.begin.new.self n o.o q.0 choice q.2 in
-    let told = c.close-told.ensures.told hash q.0 e.0 q.1 e.1 in
-    let x = c.close-told.new.self in
-    let closed : Closed n x e.0 = record { state = told.0; answered = c.close-told.ensures.answered; verbs = c.close-told.ensures.verbs; none = c.close-told.ensures.none } in
-    let turned = turned_done kind hash node.log.geometry node.client node.log.entries m c.len-lo.result o.call p c.begin.new.self n o.o q.0 choice x e.0 o.begun q.2 gone e.1 closed in
-    let v = verbed_from kind s plans l m players records timeline client plan p x o.call choice true r.kept r.timed r.planned r.there r.active o.which o.limits node.log.geometry node.client node.log.entries c.len-lo.result geometry turned_to entries c.len-lo.ensures (going_of kind hash o.o) q.2.word turned (none_open kind x c.close-told.ensures.none) in
-    let is_told : IsTold kind s (onward kind.sort hash (kind.text hash o.o.machine) choice q.2.word) o.o.lo c.close-told.result = record { d = e.0; ended = ap kind.sort.answer (sym q.2.left) ∙ e.1; reply = told.1; lo_is = told.2 ∙ q.2.lo } in
-    told_lo g.row.M.Denot kind c.law_safe.ensures s plans l m players records timeline client plan p x o.call choice (going_of kind hash o.o) q.2.word c.close-told.result v is_told
+    let one : q.0 ≡ y = one_open q.0 y (sym q.1 ∙ under) in
+    subst (λ (z : Open g.row.M.Denot). z.lo ≤ length timeline) one
+    (let low_lo = lo_low kind s plans l players records timeline client plan p r c.law_safe.ensures o.call o.which o.limits c.len-lo.result c.len-lo.ensures c.begin.new.self o.o o.begun in let same = q.2.lo in omega arith)
 
 pub invariant_of-self-2 : goal.invariant_of-self-2
 invariant_of-self-2 g c =
@@ -345,19 +342,19 @@ invariant_of-self-2 g c =
     let geometry2 : c.go.new.node.log.geometry ≡ s.geometry = c.go.ensures.geometry ∙ geometry in
     let kept : c.reserve-2.new.self.items ≡ records = c.reserve-2.ensures.items in
     let e = ended_with kind hash node.log.geometry node.client node.log.entries m c.len-lo.result o.call p c.begin.new.self n o.o q.0 choice q.2 in
-    let told = c.close-told.ensures.told hash q.0 e.0 q.1 e.1 in
-    let x = c.close-told.new.self in
-    let closed : Closed n x e.0 = record { state = told.0; answered = c.close-told.ensures.answered; verbs = c.close-told.ensures.verbs; none = c.close-told.ensures.none } in
+    let k = c.conclude.ensures hash q.0 e.0 q.1 e.1 in
+    let x = c.conclude.new.player in
+    let closed : Closed n x e.0 = record { state = k.state; answered = k.answered; verbs = k.verbs; none = k.none } in
     let turned = turned_done kind hash node.log.geometry node.client node.log.entries m c.len-lo.result o.call p c.begin.new.self n o.o q.0 choice x e.0 o.begun q.2 gone e.1 closed in
-    let v = verbed_from kind s plans l m players records timeline client plan p x o.call choice true r.kept r.timed r.planned r.there r.active o.which o.limits node.log.geometry node.client node.log.entries c.len-lo.result geometry turned_to entries c.len-lo.ensures (going_of kind hash o.o) q.2.word turned (none_open kind x c.close-told.ensures.none) in
-    let is_told : IsTold kind s (onward kind.sort hash (kind.text hash o.o.machine) choice q.2.word) o.o.lo c.close-told.result = record { d = e.0; ended = ap kind.sort.answer (sym q.2.left) ∙ e.1; reply = told.1; lo_is = told.2 ∙ q.2.lo } in
-    let number : x.answered ≡ p.answered + 1 = c.close-told.ensures.answered ∙ ap (λ k. k + 1) (c.go.ensures.answered ∙ c.begin.ensures.answered) in
-    let call : c.get-call.result ≡ o.call = same_call plan.calls.items (x.answered - 1) p.answered c.get-call.result o.call (omega arith) c.get-call.ensures o.which in
-    let t = c.tell-answered.ensures in
-    let is : IsRecord g.row.M.Denot kind c.law_safe.ensures s plans l m players records timeline client plan p x o.call choice (going_of kind hash o.o) q.2.word c.close-told.result c.tell-answered.result = record { asked = (t.asked.0, t.asked.1 ∙ number, t.asked.2 ∙ call); reply = t.reply; hi = t.hi; changing = t.changing; quiet = λ a b. told_quiet timeline c.close-told.result.lo c.get-call.result o.call c.close-told.result.reply c.tell-answered.result.point call (t.quiet a b); refused = t.refused } in
-    let h = ended g.row.M.Denot kind c.law_safe.ensures s plans l m players records timeline client plan p x o.call choice (going_of kind hash o.o) q.2.word c.close-told.result c.tell-answered.result c.made_by-self-inside.result v is_told is (λ a. c.made_by-self-inside.ensures.changing a ∙ ap change_of call) c.made_by-self-inside.ensures.staying in
-    let pushed : c.push.new.self.items ≡ records ++ c.tell-answered.result ∷ [] = c.in-Ok.ensures.appended ∙ ap (λ (y : List Record). y ++ c.tell-answered.result ∷ []) kept in
-    kept_world kind s plans m (slice_set players client x) (records ++ c.tell-answered.result ∷ []) c.push.new.self.items timeline c.made_by-self-inside.result c.go.new.node.log.geometry h.kept h.timed geometry2 pushed
+    let v = verbed_from kind s plans l m players records timeline client plan p x o.call choice true r.kept r.timed r.planned r.there r.active o.which o.limits node.log.geometry node.client node.log.entries c.len-lo.result geometry turned_to entries c.len-lo.ensures (going_of kind hash o.o) q.2.word turned (none_open kind x k.none) in
+    let told : Told = record { reply = e.0.reply; lo = q.0.lo } in
+    let is_told : IsTold kind s (onward kind.sort hash (kind.text hash o.o.machine) choice q.2.word) o.o.lo told = record { d = e.0; ended = ap kind.sort.answer (sym q.2.left) ∙ e.1; reply = refl; lo_is = q.2.lo } in
+    let number : n.answered ≡ p.answered = c.go.ensures.answered ∙ c.begin.ensures.answered in
+    let call : k.call ≡ o.call = same_call plan.calls.items n.answered p.answered k.call o.call number k.which o.which in
+    let is : IsRecord g.row.M.Denot kind c.law_safe.ensures s plans l m players records timeline client plan p x o.call choice (going_of kind hash o.o) q.2.word told k.told = record { asked = (k.asked.0, k.asked.1 ∙ ap (λ i. i + 1) number, k.asked.2 ∙ call); reply = k.reply; hi = k.hi; changing = k.changing; quiet = λ a b. told_quiet timeline q.0.lo k.call o.call e.0.reply k.told.point call (k.quiet a b); refused = k.refused } in
+    let h = ended g.row.M.Denot kind c.law_safe.ensures s plans l m players records timeline client plan p x o.call choice (going_of kind hash o.o) q.2.word told k.told c.conclude.new.pending v is_told is (λ a. k.change a ∙ ap change_of call) k.no_change in
+    let pushed : c.conclude.new.records.items ≡ records ++ k.told ∷ [] = k.pushed ∙ ap (λ (y : List Record). y ++ k.told ∷ []) kept in
+    kept_world kind s plans m (slice_set players client x) (records ++ k.told ∷ []) c.conclude.new.records.items timeline c.conclude.new.pending c.go.new.node.log.geometry h.kept h.timed geometry2 pushed
 
 pub returns-clause-answered : goal.returns-clause-answered
 returns-clause-answered g c =
@@ -387,16 +384,16 @@ returns-clause-answered g c =
     let geometry2 : c.go.new.node.log.geometry ≡ s.geometry = c.go.ensures.geometry ∙ geometry in
     let kept : c.reserve-2.new.self.items ≡ records = c.reserve-2.ensures.items in
     let e = ended_with kind hash node.log.geometry node.client node.log.entries m c.len-lo.result o.call p c.begin.new.self n o.o q.0 choice q.2 in
-    let told = c.close-told.ensures.told hash q.0 e.0 q.1 e.1 in
-    let x = c.close-told.new.self in
-    let closed : Closed n x e.0 = record { state = told.0; answered = c.close-told.ensures.answered; verbs = c.close-told.ensures.verbs; none = c.close-told.ensures.none } in
+    let k = c.conclude.ensures hash q.0 e.0 q.1 e.1 in
+    let x = c.conclude.new.player in
+    let closed : Closed n x e.0 = record { state = k.state; answered = k.answered; verbs = k.verbs; none = k.none } in
     let turned = turned_done kind hash node.log.geometry node.client node.log.entries m c.len-lo.result o.call p c.begin.new.self n o.o q.0 choice x e.0 o.begun q.2 gone e.1 closed in
-    let v = verbed_from kind s plans l m players records timeline client plan p x o.call choice true r.kept r.timed r.planned r.there r.active o.which o.limits node.log.geometry node.client node.log.entries c.len-lo.result geometry turned_to entries c.len-lo.ensures (going_of kind hash o.o) q.2.word turned (none_open kind x c.close-told.ensures.none) in
-    let is_told : IsTold kind s (onward kind.sort hash (kind.text hash o.o.machine) choice q.2.word) o.o.lo c.close-told.result = record { d = e.0; ended = ap kind.sort.answer (sym q.2.left) ∙ e.1; reply = told.1; lo_is = told.2 ∙ q.2.lo } in
-    let number : x.answered ≡ p.answered + 1 = c.close-told.ensures.answered ∙ ap (λ k. k + 1) (c.go.ensures.answered ∙ c.begin.ensures.answered) in
-    let call : c.get-call.result ≡ o.call = same_call plan.calls.items (x.answered - 1) p.answered c.get-call.result o.call (omega arith) c.get-call.ensures o.which in
-    let t = c.tell-answered.ensures in
-    let is : IsRecord g.row.M.Denot kind c.law_safe.ensures s plans l m players records timeline client plan p x o.call choice (going_of kind hash o.o) q.2.word c.close-told.result c.tell-answered.result = record { asked = (t.asked.0, t.asked.1 ∙ number, t.asked.2 ∙ call); reply = t.reply; hi = t.hi; changing = t.changing; quiet = λ a b. told_quiet timeline c.close-told.result.lo c.get-call.result o.call c.close-told.result.reply c.tell-answered.result.point call (t.quiet a b); refused = t.refused } in
-    let h = ended g.row.M.Denot kind c.law_safe.ensures s plans l m players records timeline client plan p x o.call choice (going_of kind hash o.o) q.2.word c.close-told.result c.tell-answered.result c.made_by-self-inside.result v is_told is (λ a. c.made_by-self-inside.ensures.changing a ∙ ap change_of call) c.made_by-self-inside.ensures.staying in
-    let pushed : c.push.new.self.items ≡ records ++ c.tell-answered.result ∷ [] = c.in-Ok.ensures.appended ∙ ap (λ (y : List Record). y ++ c.tell-answered.result ∷ []) kept in
-    λ _. turn_told kind s plans l m players (slice_set players client x) records (records ++ c.tell-answered.result ∷ []) c.push.new.self.items client choice true c.go.new.node.log.geometry c.args.self.now (g.C.Chooser.draws c.args.chooser.now) (g.C.Chooser.draws c.choose-choice.new.self) h.turn c.self.view_is geometry2 pushed c.choose-choice.ensures.now c.choose-choice.ensures.next
+    let v = verbed_from kind s plans l m players records timeline client plan p x o.call choice true r.kept r.timed r.planned r.there r.active o.which o.limits node.log.geometry node.client node.log.entries c.len-lo.result geometry turned_to entries c.len-lo.ensures (going_of kind hash o.o) q.2.word turned (none_open kind x k.none) in
+    let told : Told = record { reply = e.0.reply; lo = q.0.lo } in
+    let is_told : IsTold kind s (onward kind.sort hash (kind.text hash o.o.machine) choice q.2.word) o.o.lo told = record { d = e.0; ended = ap kind.sort.answer (sym q.2.left) ∙ e.1; reply = refl; lo_is = q.2.lo } in
+    let number : n.answered ≡ p.answered = c.go.ensures.answered ∙ c.begin.ensures.answered in
+    let call : k.call ≡ o.call = same_call plan.calls.items n.answered p.answered k.call o.call number k.which o.which in
+    let is : IsRecord g.row.M.Denot kind c.law_safe.ensures s plans l m players records timeline client plan p x o.call choice (going_of kind hash o.o) q.2.word told k.told = record { asked = (k.asked.0, k.asked.1 ∙ ap (λ i. i + 1) number, k.asked.2 ∙ call); reply = k.reply; hi = k.hi; changing = k.changing; quiet = λ a b. told_quiet timeline q.0.lo k.call o.call e.0.reply k.told.point call (k.quiet a b); refused = k.refused } in
+    let h = ended g.row.M.Denot kind c.law_safe.ensures s plans l m players records timeline client plan p x o.call choice (going_of kind hash o.o) q.2.word told k.told c.conclude.new.pending v is_told is (λ a. k.change a ∙ ap change_of call) k.no_change in
+    let pushed : c.conclude.new.records.items ≡ records ++ k.told ∷ [] = k.pushed ∙ ap (λ (y : List Record). y ++ k.told ∷ []) kept in
+    λ _. turn_told kind s plans l m players (slice_set players client x) records (records ++ k.told ∷ []) c.conclude.new.records.items client choice true c.go.new.node.log.geometry c.args.self.now (g.C.Chooser.draws c.args.chooser.now) (g.C.Chooser.draws c.choose-choice.new.self) h.turn c.self.view_is geometry2 pushed c.choose-choice.ensures.now c.choose-choice.ensures.next

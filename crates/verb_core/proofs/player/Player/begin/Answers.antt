@@ -1,14 +1,8 @@
 use Rattle.std.proofs.Common.{sym, refl}
 use Rattle.std.specs.Prelude.{slice_get}
 use Rattle.key_hash.specs.Placing.{placed}
-use Rattle.verb_core.proofs.Stages.{none_answer, an_answer, next_begun, same_begun}
+use Rattle.verb_core.proofs.Stages.{an_answer, same_begun}
 use Rattle.verb_core.proofs.player.Player.begin.Goals as goal
-
-pub returns-then-is_none-clause-open : goal.returns-then-is_none-clause-open
-returns-then-is_none-clause-open g c =
-    let hash = placed (g.P.Placer.listed c.args.placer.now) in
-    let p = c.args.self.now in
-    (c.begin.result, refl, c.begin.ensures.settled, next_begun g.M.Playable.kind hash c.args.lo p.state p.under_way (slice_get c.args.calls.now.items p.answered) c.get-call.result c.begin.result (none_answer p.under_way (sym (c.if-is_none.ensures))) c.get-call.ensures c.begin.ensures.going)
 
 pub returns-else-is_none-clause-open : goal.returns-else-is_none-clause-open
 returns-else-is_none-clause-open g c =
