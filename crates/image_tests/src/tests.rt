@@ -4,8 +4,11 @@ use image_audit::Audit;
 use node_image::{ImageFault, audit_bytes};
 use std::alloc::{AllocError, Global};
 
+mod commands;
 mod one_key;
+mod openings;
 mod splits;
+mod two_groups;
 
 /// What an audit tells, without the map.
 #[derive(Clone, Copy, Debug, PartialEq, Eq)]

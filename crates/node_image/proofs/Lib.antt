@@ -4,3 +4,7 @@ pub mod ListedKeys
 pub mod NodeLists
 pub mod WholeImage
 pub mod OneImage
+pub mod WordRuns
+pub mod NodeParts
+pub mod ImageNumbers
+pub mod LoggedWords

@@ -1,2 +1,4 @@
 pub mod Numbers
 pub mod Image
+pub mod Parts
+pub mod Written

@@ -8,7 +8,7 @@ use image_audit::{Audit, audit_words};
 use std::alloc::Global;
 
 /// An image has no more bytes.
-const MOST: usize = 16_777_216;
+pub(crate) const MOST: usize = 16_777_216;
 
 /// Audits bytes: Malformed exactly where they are no well formed image; Sound where each word of its walk meets its rule, with the map
 /// of its live slots; else Bad, of the first word of the walk that breaks its rule.

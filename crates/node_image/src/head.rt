@@ -6,7 +6,7 @@ ghost use Rattle.node_image.specs.Numbers.{head_of, magic};
 use node_words::Geometry;
 
 /// The bytes RACEIMG1 as a number, the first byte lowest.
-const MAGIC: u64 = 0x3147_4d49_4543_4152;
+pub(crate) const MAGIC: u64 = 0x3147_4d49_4543_4152;
 
 /// How many numbers the head has, with that of the listed keys.
 pub(crate) const HEAD: usize = 7;

@@ -18,7 +18,7 @@ pub(crate) struct Nodes {
 
 /// The address of a node's first word.
 #[tactic(auto, unfolding(node_words::specs::Addresses::node_at, node_words::specs::Addresses::node_size))]
-fn node_start(geometry: &Geometry, node: u32) -> u64
+pub(crate) fn node_start(geometry: &Geometry, node: u32) -> u64
     requires { node < geometry.now.nodes }
     ensures start { result ≡ node_at geometry.now node }
     ensures low { result ≤ 2 ^ 24 }
@@ -73,7 +73,7 @@ fn count_words(geometry: &Geometry, node: u32, numbers: &[u64]) -> Option<usize>
 }
 
 /// The greater of two numbers.
-fn greater(a: usize, b: usize) -> usize
+pub(crate) fn greater(a: usize, b: usize) -> usize
     ensures first { a ≤ result }
     ensures second { b ≤ result }
     ensures most { a ≤ 2 ^ 24 → b ≤ 2 ^ 24 → result ≤ 2 ^ 24 }

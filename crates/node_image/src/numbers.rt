@@ -1,9 +1,11 @@
-//! The numbers of bytes.
-ghost use Rattle.std.specs.Prelude.{◌≡◌, ℕ, ◌*◌, ◌%◌, ◌<◌, ◌^◌, length, IfOk};
+//! The numbers of bytes, and the bytes of numbers.
+ghost use Rattle.std.specs.Prelude.{◌≡◌, ℕ, ◌*◌, ◌%◌, ◌<◌, ◌^◌, ◌++◌, length, IfOk, OnOk};
+ghost use Rattle.byteorder.specs.Endian.{little_bytes};
 ghost use Rattle.kv_block.specs.Packing.{bytes_of};
 ghost use Rattle.race_laws.specs.Standing.{IsIn};
 
 use byteorder::{ByteOrder, LittleEndian};
+use race_io::Bytes;
 use std::alloc::{AllocError, Global};
 
 /// The numbers that bytes are, eight bytes each, the lowest first.
@@ -25,4 +27,25 @@ fn fill(bytes: &[u8], numbers: &mut [u64])
     ensures small { (x : ℕ) → IsIn x numbers.new → x < 2 ^ 64 }
 {
     LittleEndian::read_u64_into(bytes, numbers);
+}
+
+/// Appends a number, as eight bytes, the lowest first.
+fn push_number(bytes: &mut Bytes, number: u64) -> Result<(), AllocError>
+    ensures { OnOk result (bytes.new.items ≡ bytes.old.items ++ little_bytes 8 number) }
+{
+    let mut eight = [0; 8];
+    LittleEndian::write_u64(&mut eight, number);
+    bytes.append(&eight)
+}
+
+/// The bytes of numbers, eight bytes each, the lowest first.
+pub(crate) fn write_bytes(alloc: Global, numbers: &[u64]) -> Result<Bytes, AllocError>
+    ensures bytes { IfOk result (λ bytes. bytes.items ≡ bytes_of numbers.now) }
+    ensures small { (x : ℕ) → IsIn x numbers.now → x < 2 ^ 64 }
+{
+    let mut bytes = Bytes::new(alloc);
+    for number in numbers {
+        push_number(&mut bytes, *number)?;
+    }
+    Ok(bytes)
 }

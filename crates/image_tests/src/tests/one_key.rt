@@ -3,7 +3,7 @@ use super::{Row, Told, audited, first_other, spelled};
 use std::test::Fail;
 
 /// The head, the listed key with hash 0, the next word, the global depth, the directory word, the table, the block.
-const ONE_KEY: [u64; 60] = [
+pub(super) const ONE_KEY: [u64; 60] = [
     3_550_891_808_294_912_338,
     1,
     0,
