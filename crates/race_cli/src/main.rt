@@ -9,7 +9,7 @@ use race_play::race;
 use std::process::ExitCode;
 use std::{env, io};
 
-const USAGE: &str = "usage: race replay | race storm SEED CLIENTS CALLS";
+const USAGE: &str = "usage: race replay | race storm SEED CLIENTS CALLS | race image | race audit";
 
 /// The words are no command.
 const NO_COMMAND: u8 = 2;

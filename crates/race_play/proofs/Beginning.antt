@@ -1,5 +1,5 @@
 -- A script's clients are those that a world can begin with.
-use Rattle.std.proofs.Common.{◌≡◌, ℕ, zero, suc, ◌+◌, ◌<◌, ◌≤◌, List, [], ◌∷◌, ◌++◌, length, map, get_or, Option, Some, slice_get, refl, sym, ap, subst, ◌∙◌, arith}
+use Rattle.std.proofs.Common.{◌≡◌, ℕ, zero, suc, ◌+◌, ◌<◌, ◌≤◌, List, [], ◌∷◌, length, map, Option, Some, slice_get, sym, ap, subst, ◌∙◌, arith}
 use Rattle.std.proofs.lemmas.List.Elements.{All-from_recursion}
 use Rattle.std.specs.List.{AllByRecursion, All, flat_map}
 use Rattle.map_model.specs.declared.calls.Call.{Call}
@@ -8,10 +8,10 @@ use Rattle.map_model.specs.declared.plans.Item.TheVariants as item
 use Rattle.map_model.specs.declared.plans.Plan.{Plan}
 use Rattle.map_model.proofs.Filtered.{append_all}
 use Rattle.verb_core.specs.Schedules.{IsFor}
-use Rattle.script_value.specs.Content.{Content, calls_at}
+use Rattle.script_value.specs.Content.{Content}
 use Rattle.script_value.specs.ScriptText.{item_client}
 use Rattle.script_value.specs.Valid.{call_count}
-use Rattle.race_play.specs.Planned.{plan_view, planned_from, planned}
+use Rattle.race_play.specs.Planned.{plan_view, planned_from}
 
 -- each plan has no more calls than all
 pub plan-short : (c : Content) (es : List (List ℕ × List Call)) (client : ℕ) (plans : List Plan) (i : ℕ) (plan : Plan) → map plan_view plans ≡ planned_from client c es → slice_get plans i ≡ Some plan

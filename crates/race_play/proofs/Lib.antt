@@ -3,3 +3,4 @@ pub mod Lines
 pub mod Beginning
 pub mod Results
 pub mod Sources
+pub mod Pictures

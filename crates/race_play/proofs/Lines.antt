@@ -1,31 +1,28 @@
 -- The lines of a play are of calls of the script.
-use Rattle.std.proofs.Common.{◌≡◌, ℕ, zero, suc, ◌+◌, ◌<◌, ◌≤◌, ◌==◌, Bool, true, false, cond, List, [], ◌∷◌, ◌++◌, length, map, filter, take, drop, Option, Some, None, slice_get, slice_index_or, refl, sym, ap, subst, ◌∙◌, arith, append_assoc}
+use Rattle.std.proofs.Common.{◌≡◌, ℕ, zero, suc, ◌+◌, ◌<◌, ◌≤◌, Bool, true, false, cond, List, [], ◌∷◌, ◌++◌, length, map, filter, take, drop, Option, Some, None, slice_get, slice_index_or, refl, sym, ap, subst, ◌∙◌, arith, append_assoc}
 use Rattle.item_list.proofs.Pieces.{drop-step}
 use Rattle.std.proofs.lemmas.Bool.{eqb-true}
-use Rattle.std.proofs.lemmas.List.{length-map, length-set, length-take-le}
+use Rattle.std.proofs.lemmas.List.{length-map, length-set}
 use Rattle.std.proofs.lemmas.Option.{slice_get_within}
 use Rattle.std.specs.List.{AllByRecursion}
 use Rattle.std.specs.Option.{option_map}
-use Rattle.key_hash.specs.Placing.{placed}
 use Rattle.map_model.specs.declared.calls.Call.{Call}
 use Rattle.map_model.specs.declared.plans.Plan.{Plan}
 use Rattle.map_model.specs.declared.records.Record.{Record}
 use Rattle.map_model.proofs.Filtered.{append_all}
 use Rattle.call_machine.specs.declared.call.CallMachine.{CallMachine}
-use Rattle.world_texts.specs.Sorts.{Kind}
 use Rattle.verb_core.specs.Machine.{call_kind}
 use Rattle.verb_core.specs.declared.player.Player.{Player}
 use Rattle.race_laws.specs.Setting.{Setting}
-use Rattle.verb_core.specs.Play.{Play, Event, AreFresh, Going, asked_by, counted, unfinished_of, stage, going_of}
-use Rattle.verb_core.specs.Traces.{Turns, turns_none, turns_more, Lived, Opened}
+use Rattle.verb_core.specs.Play.{Play, Event, AreFresh, Going, counted, unfinished_of, going_of}
+use Rattle.verb_core.specs.Traces.{Turns, turns_none, turns_more, Opened}
 use Rattle.verb_core.proofs.Traces.{plays_turns, all_lived}
-use Rattle.script_value.specs.Content.{Content, ScriptValue, calls_at, stop_at}
-use Rattle.play_report.specs.declared.report.Line.{Line}
+use Rattle.script_value.specs.Content.{Content, ScriptValue, calls_at}
 use Rattle.play_report.specs.Report.{IsOfCall}
 use Rattle.play_lines.specs.PlayLines.{answered_line, open_lines, is_of, lines_from, lines_of}
 use Rattle.play_lines.proofs.Listing.{element-there}
 use Rattle.race_play.specs.Planned.{plan_view, planned_from, planned}
-use Rattle.race_play.specs.Plays.{Begins, IsPlayed}
+use Rattle.race_play.specs.Plays.{IsPlayed}
 
 -- verbs leave as many clients as there were
 turns-many : (w v : Play CallMachine) (es : List Event) → Turns call_kind w es v → length v.players ≡ length w.players

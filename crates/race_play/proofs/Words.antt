@@ -1,5 +1,5 @@
 -- Words that are no command.
-use Rattle.std.proofs.Common.{◌≡◌, ◌≢◌, ℕ, List, [], ◌∷◌, ◌++◌, length, get_or, map, refl, sym, ap, ◌∙◌, arith, None}
+use Rattle.std.proofs.Common.{◌≡◌, ◌≢◌, ℕ, List, [], ◌∷◌, length, refl, None}
 use Rattle.race_play.specs.Commands.{command_of}
 
 -- they are neither one nor four

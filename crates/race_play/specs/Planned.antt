@@ -1,5 +1,5 @@
 -- What each client of a script is to do.
-use Rattle.std.specs.Prelude.{ℕ, ◌+◌, List, [], ◌∷◌, map, Option}
+use Rattle.std.specs.Prelude.{ℕ, ◌+◌, List, [], ◌∷◌, Option}
 use Rattle.map_model.specs.declared.calls.Call.{Call}
 use Rattle.map_model.specs.declared.plans.Plan.{Plan}
 use Rattle.script_value.specs.Content.{Content, stop_at}

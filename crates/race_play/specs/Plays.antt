@@ -1,5 +1,5 @@
 -- The play of a script by its schedule, and what it leaves.
-use Rattle.std.specs.Prelude.{◌≡◌, ℕ, List, [], length, map, Option, None}
+use Rattle.std.specs.Prelude.{◌≡◌, ℕ, List, [], length, map, None}
 use Rattle.std.specs.List.{AllByRecursion, flat_map}
 use Rattle.kv_block.specs.declared.changes.Change.{Change}
 use Rattle.map_model.specs.Contents.{Contents}
@@ -63,3 +63,9 @@ pub record Replayed (script : ScriptValue) (lines : List Line) (pairs : Contents
   pub ended : Play CallMachine
   pub played : IsPlayed script ended
   pub told : IsTold ended lines pairs next front
+
+-- this is the log of a play
+pub record IsLogOf (v : Play CallMachine) (front : Fronted) : Type 0 where
+  pub geometry : front.geometry ≡ v.setting.geometry
+  pub entries : front.entries ≡ v.entries
+  pub stored : front.ran ≡ None

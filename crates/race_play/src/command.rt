@@ -1,6 +1,6 @@
 //! The commands of the program.
 ghost use Rattle.std.specs.Prelude.{◌≡◌, [], ◌∷◌, map};
-ghost use Rattle.race_play.specs.Commands.{command_of, storm_of};
+ghost use Rattle.race_play.specs.Commands.{command_of, command_of_word, storm_of};
 
 use spelling::read_number;
 
@@ -11,6 +11,10 @@ pub enum Command {
     Replay,
     /// Makes the script of a storm, plays it and sums its play up: 1 to 16 clients, with 1 to 1,024 calls each.
     Storm { seed: u64, clients: u32, calls: u32 },
+    /// Plays the script of standard input by its schedule and writes the image of the words that it leaves.
+    Image,
+    /// Audits the image of standard input.
+    Audit,
 }
 
 // A storm of these numbers, where they are within their limits.
@@ -29,14 +33,19 @@ fn storm_of(seed: Option<u64>, clients: Option<u64>, calls: Option<u64>) -> Opti
 }
 
 // The command of one word.
-fn replay_of(word: &str) -> Option<Command>
-    ensures { result ≡ command_of (word.now ∷ []) }
+fn word_told(word: &str) -> Option<Command>
+    ensures { result ≡ command_of_word word.now }
 {
     if word == "replay" {
-        Some(Command::Replay)
-    } else {
-        None
+        return Some(Command::Replay);
     }
+    if word == "image" {
+        return Some(Command::Image);
+    }
+    if word == "audit" {
+        return Some(Command::Audit);
+    }
+    None
 }
 
 // The command of four words.
@@ -53,13 +62,13 @@ fn storm_told(word: &str, seed: &str, clients: &str, calls: &str) -> Option<Comm
     )
 }
 
-/// The command that the words name: `replay` alone, or `storm` with a seed below 2^64, 1 to 16 clients and 1 to 1,024 calls,
+/// The command that the words name: `replay`, `image` or `audit` alone, or `storm` with a seed below 2^64, 1 to 16 clients and 1 to 1,024 calls,
 /// decimal numbers without sign and without a zero in front. None exactly where the words are no such command.
 pub fn command_of(words: &[&str]) -> Option<Command>
     ensures { result ≡ command_of (map (λ word. word.now) words.now) }
 {
     match words {
-        [word] => replay_of(word),
+        [word] => word_told(word),
         [word, seed, clients, calls] => storm_told(word, seed, clients, calls),
         _ => None,
     }

@@ -3,7 +3,8 @@ ghost use Rattle.std.specs.Prelude.{◌≡◌, ◌≤◌, All, List, length, map
 ghost use Rattle.std.specs.List.{AllByRecursion};
 ghost use Rattle.play_report.specs.Report.{IsOfCall};
 ghost use Rattle.verb_core.specs.Machine.{call_kind};
-ghost use Rattle.verb_core.specs.Play.{Event, IsLegalPlay, unfinished_of};
+ghost use Rattle.call_machine.specs.declared.call.CallMachine.{CallMachine};
+ghost use Rattle.verb_core.specs.Play.{Event, IsLegalPlay, Play, unfinished_of};
 ghost use Rattle.verb_core.specs.Schedules.{IsFor, Plays};
 ghost use Rattle.race_play.specs.Plays.{Begins, IsPlayed, IsTold, Replayed};
 
@@ -16,6 +17,7 @@ use play_lines::play_lines;
 use std::alloc::{AllocError, Global};
 use trace_script::{Lines, Script};
 use verb_core::World;
+use verb_log::Log;
 
 /// What is told of a play.
 #[derive(Drop)]
@@ -93,6 +95,15 @@ fn told(alloc: Global, world: World<Listed>, clients: u32) -> Result<Played, All
         next,
         front: Front::of_log(log),
     })
+}
+
+/// Plays the script as `play_replay` does, and hands out the log of the play alone.
+pub(crate) fn play_log(alloc: Global, script: &Script) -> Result<Log, AllocError>
+    ensures { IfOk result (λ log. (ended : Play CallMachine) × IsPlayed script.now ended × (log.geometry ≡ ended.setting.geometry) × (log.entries ≡ ended.entries)) }
+{
+    let world = play(alloc, script)?;
+    let (_records, log) = world.into_parts();
+    Ok(log)
 }
 
 /// Plays the script by its schedule, on one thread: the items of its schedule lines, and then each client in order all that is

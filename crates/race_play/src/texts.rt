@@ -1,21 +1,32 @@
-//! What a command writes of the play of a script.
+//! What a command tells of the play of a script.
 ghost use Rattle.std.specs.Prelude.{◌≡◌, ◌≤◌, IfOk, Err};
 ghost use Rattle.script_reader.specs.Rules.{script_of};
 ghost use Rattle.script_reader.specs.declared.fault.Refusal.{Refusal};
-ghost use Rattle.race_play.specs.Texts.{Reports, Sums};
+ghost use Rattle.race_play.specs.Texts.{LogsPlay, Reports, Sums};
 ghost use Rattle.race_play.specs.declared.texts.PlayFault.TheVariants.{OutOfMemory, Refused};
 
-use crate::played::play_replay;
+use crate::played::{play_log, play_replay};
 use client_seat::Front;
+use key_hash::Listed;
+use node_words::Geometry;
 use std::alloc::{AllocError, Global};
 use storm_script::{storm_script, summary_text};
 use trace_script::{Mode, Refusal, ScriptFault, Text, read_script, report_text};
+use verb_log::Log;
 
 /// A text, and the log of the play that it tells of.
 #[derive(Drop)]
 pub(crate) struct Account {
     pub(crate) text: Text,
     pub(crate) front: Front,
+}
+
+/// The log of the play of a script, with the script's sizes and listed hashes.
+#[derive(Drop)]
+pub(crate) struct Logged {
+    pub(crate) log: Log,
+    pub(crate) geometry: Geometry,
+    pub(crate) listed: Listed,
 }
 
 /// Why there is no report.
@@ -60,6 +71,27 @@ pub(crate) fn replay_account(alloc: Global, bytes: &[u8]) -> Result<Account, Pla
     Ok(Account {
         text,
         front: played.front,
+    })
+}
+
+/// The log of the play of the script that bytes spell. It answers Refused as `replay_account` does.
+pub(crate) fn replay_log(alloc: Global, bytes: &[u8]) -> Result<Logged, PlayFault>
+    ensures logs { IfOk result (λ logged. LogsPlay bytes.now logged.log logged.geometry logged.listed) }
+    ensures refused { (refusal : Refusal) → result ≡ Err (Refused refusal) → script_of bytes.now ≡ Err (refusal.line, refusal.kind) }
+{
+    let script = match read_script(alloc, bytes) {
+        Ok(script) => script,
+        Err(ScriptFault::Refused { line, kind }) => {
+            return Err(PlayFault::Refused(Refusal { line, kind }));
+        }
+        Err(ScriptFault::OutOfMemory) => return Err(PlayFault::OutOfMemory),
+    };
+    let log = play_log(alloc, &script)?;
+    let listed = script.placer(alloc)?;
+    Ok(Logged {
+        log,
+        geometry: script.geometry(),
+        listed,
     })
 }
 

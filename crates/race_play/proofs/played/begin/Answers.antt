@@ -1,4 +1,4 @@
-use Rattle.std.proofs.Common.{◌≡◌, ◌≤◌, ℕ, List, length, map, ap, sym, subst, ◌∙◌, arith}
+use Rattle.std.proofs.Common.{◌≡◌, ℕ, length, map, ap, subst, ◌∙◌, arith}
 use Rattle.node_words.specs.declared.geometry.Geometry.{Geometry}
 use Rattle.race_laws.specs.Setting.{Setting}
 use Rattle.verb_core.specs.Play.{AreFresh}

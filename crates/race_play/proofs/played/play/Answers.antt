@@ -1,4 +1,4 @@
-use Rattle.std.proofs.Common.{◌≡◌, List, length, sym, subst}
+use Rattle.std.proofs.Common.{List, length, sym, subst}
 use Rattle.map_model.specs.declared.plans.Item.{Item}
 use Rattle.verb_core.specs.Machine.{call_kind}
 use Rattle.verb_core.specs.Schedules.{Plays}

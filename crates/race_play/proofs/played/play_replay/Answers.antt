@@ -1,9 +1,8 @@
-use Rattle.std.proofs.Common.{◌≡◌, ℕ, List, map, sym, subst, ◌∙◌}
+use Rattle.std.proofs.Common.{List, sym, subst, ◌∙◌}
 use Rattle.std.proofs.lemmas.List.Elements.{All-from_recursion}
 use Rattle.std.specs.List.{All}
 use Rattle.play_report.specs.declared.report.Line.{Line}
 use Rattle.play_report.specs.Report.{IsOfCall}
-use Rattle.race_play.specs.Plays.{Replayed}
 use Rattle.race_play.proofs.Lines.{lines-known, players-many}
 use Rattle.race_play.proofs.Results.{if-ok}
 use Rattle.race_play.proofs.played.play_replay.Goals as goal

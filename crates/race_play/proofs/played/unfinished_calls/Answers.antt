@@ -1,4 +1,4 @@
-use Rattle.std.proofs.Common.{◌≡◌, ◌<◌, length, arith}
+use Rattle.std.proofs.Common.{◌<◌, length, arith}
 use Rattle.play_lines.proofs.Listing.{element-there}
 use Rattle.race_play.proofs.Lines.{numbers-step}
 use Rattle.race_play.proofs.played.unfinished_calls.Goals as goal

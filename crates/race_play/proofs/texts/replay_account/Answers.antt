@@ -1,4 +1,3 @@
-use Rattle.std.proofs.Common.{◌≡◌}
 use Rattle.race_play.proofs.texts.replay_account.Goals as goal
 
 pub returns-clause-reports : goal.returns-clause-reports

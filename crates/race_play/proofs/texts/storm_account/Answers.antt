@@ -1,4 +1,4 @@
-use Rattle.std.proofs.Common.{◌≡◌, subst}
+use Rattle.std.proofs.Common.{subst}
 use Rattle.script_value.specs.Content.{ScriptValue}
 use Rattle.race_play.specs.Plays.{Replayed}
 use Rattle.race_play.proofs.texts.storm_account.Goals as goal

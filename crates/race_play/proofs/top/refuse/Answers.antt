@@ -1,4 +1,4 @@
-use Rattle.std.proofs.Common.{◌≡◌, List, ℕ, ◌∙◌, subst}
+use Rattle.std.proofs.Common.{List, ℕ, ◌∙◌, subst}
 use Rattle.race_io.specs.Counts.{Rose}
 use Rattle.race_io.specs.Transfer.{AppendsPart}
 use Rattle.std.specs.Io.KnownBytes.{Appends}

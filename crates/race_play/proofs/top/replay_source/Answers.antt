@@ -1,4 +1,4 @@
-use Rattle.std.proofs.Common.{rules, ◌≡◌, ℕ, List, refl, sym, subst}
+use Rattle.std.proofs.Common.{rules, sym, subst}
 use Rattle.race_io.specs.Transfer.{TakesAll}
 use Rattle.race_play.proofs.Sources.{read-whole}
 use Rattle.race_play.proofs.top.replay_source.Goals as goal
@@ -25,7 +25,6 @@ returns-in-Ok-replay_account-clause-in_part g c status = record {
 
 pub returns-in-Err-Refused-clause-refused : goal.returns-in-Err-Refused-clause-refused
 returns-in-Err-Refused-clause-refused g c status = record {
-  reads = refl;
   bytes = c.as_slice.result.now;
   refusal = (c.in-Err-Refused.refusal.line, c.in-Err-Refused.refusal.kind);
   taken = (subst (TakesAll (g.S.Source.left c.args.source.now) (g.S.Source.left c.take_all.new.source) 4194305) (sym c.as_slice.ensures) c.in-Ok.ensures.taken);

@@ -1,4 +1,3 @@
-use Rattle.std.proofs.Common.{◌≡◌}
 use Rattle.race_play.proofs.top.sum_up.Goals as goal
 
 pub returns-in-Ok-clause-played : goal.returns-in-Ok-clause-played

@@ -1,0 +1,15 @@
+use Rattle.race_play.proofs.texts.replay_log.Goals as goal
+
+pub returns-clause-logs : goal.returns-clause-logs
+returns-clause-logs c = record {
+  script = c.in-Ok.script;
+  is = c.in-Ok.ensures.found.0;
+  spelled = c.in-Ok.ensures.found.1;
+  read = c.in-Ok.ensures.exact;
+  ended = c.in_ok-log.ensures.0;
+  played = c.in_ok-log.ensures.1;
+  same_geometry = c.in_ok-log.ensures.2;
+  same_entries = c.in_ok-log.ensures.3;
+  geometry_is = c.geometry.ensures;
+  listed_is = c.in_ok-listed.ensures;
+}
