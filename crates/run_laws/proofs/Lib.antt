@@ -1,0 +1,4 @@
+pub mod Fronts
+pub mod Living
+mod Looks
+mod Headline

@@ -1,0 +1,3 @@
+pub mod Lives
+pub mod Whole
+pub mod Headline

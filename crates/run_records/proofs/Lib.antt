@@ -1,0 +1,4 @@
+mod Greedy
+pub mod Together
+pub mod Exist
+mod One

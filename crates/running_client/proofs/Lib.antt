@@ -1,0 +1,7 @@
+pub mod Fronts
+mod Texts
+mod Answering
+mod Losing
+mod Runs
+mod Answered
+mod Fresh

@@ -1,0 +1,4 @@
+mod Working
+mod Dealing
+mod Gathering
+mod Giving

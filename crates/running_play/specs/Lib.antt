@@ -1,0 +1,4 @@
+pub mod Worked
+pub mod Dealt
+pub mod Gathered
+pub mod GivenBack

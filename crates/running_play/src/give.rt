@@ -1,0 +1,19 @@
+//! The seats of workers, given back.
+ghost use Rattle.std.specs.Prelude.{◌≡◌, ◌<◌, ◌++◌, length, drop};
+ghost use Rattle.running_play.specs.GivenBack.{AreNumbered, places_of};
+
+use crate::worker::Worked;
+use client_seat::Seats;
+
+/// Gives the seats of workers back, which have the numbers of their places.
+pub(crate) fn give_back(seats: &mut Seats, mut all: Vec<Worked>)
+    requires numbered { AreNumbered seats.old.home 0 all.items }
+    requires few { length all.items < length seats.old.places }
+    ensures given { seats.new.places ≡ places_of all.items ++ drop (length all.items) seats.old.places }
+    ensures home { seats.new.home ≡ seats.old.home }
+{
+    while let Some(worked) = all.pop() {
+        let Worked { seat, lines: _ } = worked;
+        seats.give(seat);
+    }
+}
