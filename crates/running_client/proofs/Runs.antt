@@ -121,6 +121,7 @@ module _ (s : Setting) (c : ℕ) (call : Call) (state : State) (first : Entries)
           changed = λ is. changed_by r.seen l d r.next r.none (right.changing is);
           left = λ is. none_next s c first r.seen l r.next (right.staying is) r.none;
           quiet = right.quiet;
+          read = right.read;
           cause = right.cause;
         },
         well.fits,

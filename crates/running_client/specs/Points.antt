@@ -10,7 +10,7 @@ use Rattle.race_laws.specs.Legal.{IsLegal}
 use Rattle.log_facts.specs.Among.{changes_of}
 use Rattle.call_texts.specs.State.{State}
 use Rattle.call_machine.specs.declared.answer.Answer.{Answer}
-use Rattle.whole_calls.specs.Right.{Blocks, AtPoint, Cause}
+use Rattle.whole_calls.specs.Right.{Blocks, AtPoint, WasRead, Cause}
 
 -- from the log l on the client has made no change of the map: each entry since then is of another, or changes nothing
 pub data MadeNone (s : Setting) (c : ℕ) (l : Entries) : Entries → Type 0 where
@@ -44,6 +44,8 @@ pub record Replied (s : Setting) (c : ℕ) (state : State) (call : Call) (before
   pub left : is_change a.reply ≡ false → MadeNone s c before front
   -- and where it is one of the map, a single map gives it at a point between the two fronts
   pub quiet : is_quiet a.reply ≡ true → AtPoint s call before front a.reply
+  -- what was found was read in the block that is told, at a position between the two
+  pub read : WasRead s call (reverse before) (reverse front) a.reply a.from a.to
   -- a refusal has its cause, at positions between the two
   pub cause : Cause s c call state (reverse before) (reverse front) a.reply
 

@@ -92,7 +92,7 @@ use Rattle.whole_calls.specs.Law.{IsSafeWithin, MayCall, InsertIsSafe}
 use Rattle.whole_calls.specs.Right.{Right, Cause, NoPlace, FullTable}
 use Rattle.whole_calls.proofs.Fitting.{ticket_firm}
 use Rattle.whole_calls.proofs.Inside.{quiet_costs}
-use Rattle.whole_calls.proofs.Points.{false_true, true_false, point, told, Going, going_firm, own_state, state_is, may_look}
+use Rattle.whole_calls.proofs.Points.{not_read, was_read, false_true, true_false, point, told, Going, going_firm, own_state, state_is, may_look}
 use Rattle.whole_calls.proofs.Depths.{Full, full_on, full_there, deep_stuck, split_deeper, change_deeper, change_full, stays_plain}
 
 -- one program and then another and then a third
@@ -225,6 +225,7 @@ module _ (s : Setting) (c tries : ℕ) (pair : Pair) (ip : IsPair pair) (cache :
     changing = λ e. absurd (false_true (sym x ∙ e));
     staying = λ e. same;
     quiet = λ e. absurd (false_true (sym y ∙ e));
+    read = not_read s call (reverse first) (reverse m) reply 0 0 y;
     cause = cause;
     of_key = refl;
     start = λ u e. told (Start s.geometry (reverse m) h) t u e st;
@@ -640,6 +641,7 @@ module _ (s : Setting) (c tries : ℕ) (pair : Pair) (ip : IsPair pair) (cache :
                           };
                           staying = λ y. absurd (true_false y);
                           quiet = λ y. absurd (false_true y);
+                          read = tt;
                           cause = tt;
                           of_key = refl;
                           start = λ u y. told (Start s.geometry (reverse r) h) p.table u y (subst (λ v. Start s.geometry v h p.table) (sym e) (start_before s (later here) lm h p.table az.start));
@@ -660,6 +662,7 @@ module _ (s : Setting) (c tries : ℕ) (pair : Pair) (ip : IsPair pair) (cache :
         changing = λ e. absurd (false_true e);
         staying = λ e. same;
         quiet = λ e. point s call first m (Exists hw.value) so.at (Before-trans x0.since so.from_then) so.till (Some so.pair.value) (held_then s so.till a.legal pair.key p.table so.place so.body so.pair so.holder) (ap (λ v. Some (Exists v)) so.value);
+        read = (was_read s pair.key (reverse first) (reverse l0) (reverse m) p.table hw x0.since so, refl);
         cause = tt;
         of_key = refl;
         start = λ u e. told (Start s.geometry (reverse m) h) p.table u e a.start;

@@ -60,7 +60,7 @@ use Rattle.whole_calls.specs.Fits.{TicketFits}
 use Rattle.whole_calls.specs.Right.{Right}
 use Rattle.whole_calls.specs.Law.{IsSafeWithin, MayCall, SearchIsSafe, DeleteIsSafe, UpdateIsSafe}
 use Rattle.whole_calls.proofs.Inside.{op_inside}
-use Rattle.whole_calls.proofs.Points.{false_true, true_false, point, value_before, held_block, told, Going, going_firm, own_state, state_is, may_look}
+use Rattle.whole_calls.proofs.Points.{was_read, false_true, true_false, point, value_before, held_block, told, Going, going_firm, own_state, state_is, may_look}
 
 module _ (s : Setting) (c tries : ℕ) (cache : Cached) (ticket : Option Ticket) (area : Area) (key : List ℕ) where
   abbrev k : State
@@ -79,6 +79,7 @@ module _ (s : Setting) (c tries : ℕ) (cache : Cached) (ticket : Option Ticket)
       changing = λ e. absurd (false_true e);
       staying = λ e. same;
       quiet = λ e. point s (Search key) first l (Found h.value) x.at x.from_then x.till (Some x.pair.value) (held_then s x.till lg key t x.place x.body x.pair x.holder) (ap (λ v. Some (Found v)) x.value);
+      read = (was_read s key (reverse first) (reverse first) (reverse l) t h here x, refl);
       cause = tt;
       of_key = refl;
       start = λ u e. told (Start s.geometry (reverse l) (hash s key)) t u e st;
@@ -91,6 +92,7 @@ module _ (s : Setting) (c tries : ℕ) (cache : Cached) (ticket : Option Ticket)
           changing = λ e. absurd (false_true e);
           staying = λ e. same;
           quiet = λ e. point s (Search key) first l Missing y.at y.from_then y.till None y.lacks refl;
+          read = tt;
           cause = tt;
           of_key = refl;
           start = λ u e. told (Start s.geometry (reverse l) (hash s key)) t u e st;
@@ -135,6 +137,7 @@ module _ (s : Setting) (c tries : ℕ) (cache : Cached) (ticket : Option Ticket)
           };
           staying = λ e. absurd (true_false e);
           quiet = λ e. absurd (false_true e);
+          read = tt;
           cause = tt;
           of_key = refl;
           start = λ u e. told (Start s.geometry (reverse l) (hash s key)) t u e st;
@@ -147,6 +150,7 @@ module _ (s : Setting) (c tries : ℕ) (cache : Cached) (ticket : Option Ticket)
           changing = λ e. absurd (false_true e);
           staying = λ e. x.1;
           quiet = λ e. point s (Delete key) first l Missing y.at y.from_then y.till None y.lacks refl;
+          read = tt;
           cause = tt;
           of_key = refl;
           start = λ u e. told (Start s.geometry (reverse l) (hash s key)) t u e st;
@@ -157,6 +161,7 @@ module _ (s : Setting) (c tries : ℕ) (cache : Cached) (ticket : Option Ticket)
       changing = λ e. absurd (false_true e);
       staying = λ e. x.0;
       quiet = λ e. absurd (false_true e);
+      read = tt;
       cause = refl;
       of_key = refl;
       start = λ u e. told (Start s.geometry (reverse l) (hash s key)) t u e st;
@@ -205,6 +210,7 @@ module _ (s : Setting) (c tries : ℕ) (cache : Cached) (ticket : Option Ticket)
           };
           staying = λ y. absurd (true_false y);
           quiet = λ y. absurd (false_true y);
+          read = tt;
           cause = tt;
           of_key = refl;
           start = λ u y. told (Start s.geometry (reverse l) (hash s key)) e.table u y st;
@@ -217,6 +223,7 @@ module _ (s : Setting) (c tries : ℕ) (cache : Cached) (ticket : Option Ticket)
           changing = λ y. absurd (false_true y);
           staying = λ _. x.1;
           quiet = λ _. point s (Update key value) first l Missing y.at y.from_then y.till None y.lacks refl;
+          read = tt;
           cause = tt;
           of_key = refl;
           start = λ u z. told (Start s.geometry (reverse l) (hash s key)) e.table u z st;
@@ -227,6 +234,7 @@ module _ (s : Setting) (c tries : ℕ) (cache : Cached) (ticket : Option Ticket)
       changing = λ y. absurd (false_true y);
       staying = λ _. x.0;
       quiet = λ y. absurd (false_true y);
+      read = tt;
       cause = refl;
       of_key = refl;
       start = λ u y. told (Start s.geometry (reverse l) (hash s key)) e.table u y st;
@@ -237,6 +245,7 @@ module _ (s : Setting) (c tries : ℕ) (cache : Cached) (ticket : Option Ticket)
       changing = λ y. absurd (false_true y);
       staying = λ _. x.1;
       quiet = λ y. absurd (false_true y);
+      read = tt;
       cause = (x.0.need, x.0.count, x.0.full);
       of_key = refl;
       start = λ u y. told (Start s.geometry (reverse l) (hash s key)) e.table u y st;

@@ -1,25 +1,29 @@
 -- What the ends of calls have in common: a point at which the map answers so, the blocks of a word, the state of a client.
 use Rattle.std.specs.Prelude.{◌≡◌, ℕ, true, false, List, length, reverse, Option, Some, None, ◌⊎◌, refl}
 use Rattle.std.specs.FinMap.{get}
-use Rattle.std.proofs.Common.{sym, ◌∙◌, ap, subst, ⊎_elim}
+use Rattle.std.proofs.Common.{sym, ◌∙◌, ap, subst, inl, inr, ⊎_elim}
 use Rattle.slot_word.specs.declared.slots.Mark.{Mark}
 use Rattle.slot_word.specs.declared.slots.Mark.TheVariants.{Live, Copied}
 use Rattle.kv_block.specs.declared.changes.Change.{Change}
 use Rattle.kv_block.specs.Packing.{Pair}
 use Rattle.map_model.specs.declared.calls.Call.{Call}
 use Rattle.map_model.specs.declared.calls.Reply.{Reply}
-use Rattle.map_model.specs.Machine.{key_of, reply_at, map_at}
+use Rattle.map_model.specs.declared.calls.Reply.TheVariants as reply
+use Rattle.map_model.specs.Machine.{key_of, reply_at, map_at, is_quiet}
 use Rattle.verb_log.specs.Decoded.{Body, Full, content}
 use Rattle.verb_log.specs.Changes.{changes}
-use Rattle.verb_log.specs.Tables.{Past, Before, here, later}
+use Rattle.verb_log.specs.Tables.{Past, Before, here, later, word_at}
+use Rattle.verb_log.proofs.Positions.{Before-trans}
 use Rattle.verbs.specs.Logs.{Entries}
 use Rattle.race_laws.specs.Setting.{Setting}
-use Rattle.race_laws.specs.Chains.{Holder}
+use Rattle.race_laws.specs.Standing.{place_in}
+use Rattle.race_laws.specs.Chains.{Holder, live, copied}
 use Rattle.race_laws.specs.Legal.{Legal}
 use Rattle.dir_cache.specs.Cached.{Cached, entry_of}
 use Rattle.log_facts.specs.Beside.{Firm}
 use Rattle.pass_text.specs.declared.job.PassMode.TheVariants.{Look, Walk}
 use Rattle.pass_text.specs.declared.passed.Held.{Held as HeldWord}
+use Rattle.pass_laws.specs.HasPassed.{HeldAt}
 use Rattle.pass_laws.specs.Law.{MayBegin}
 use Rattle.block_taking.specs.declared.taking.Area.{Area}
 use Rattle.split_text.specs.declared.site.Ticket.{Ticket}
@@ -29,7 +33,7 @@ use Rattle.call_laws.proofs.Settling.{full_slot}
 use Rattle.call_texts.specs.State.{State}
 use Rattle.call_texts.specs.Text.{block_at, block_of}
 use Rattle.whole_calls.specs.Fits.{TicketFits}
-use Rattle.whole_calls.specs.Right.{AtPoint}
+use Rattle.whole_calls.specs.Right.{AtPoint, HolderRead, WasRead}
 use Rattle.whole_calls.proofs.Fitting.{ticket_firm}
 
 pub false_true : false ≡ true → ⊥
@@ -53,6 +57,40 @@ block_is h m b e = sym (ap block_at (full_slot h.word m b e))
 
 pub held_block : (h : HeldWord) (b : Body) → (content h.word ≡ Full Live b) ⊎ (content h.word ≡ Full Copied b) → b.at ≡ block_of h
 held_block h b e = ⊎_elim (λ (x : content h.word ≡ Full Live b). block_is h Live b x) (λ (x : content h.word ≡ Full Copied b). block_is h Copied b x) e
+
+-- a holder's word is live, or a copy
+holder_word : (s : Setting) (x : Past) (key : List ℕ) (t p : ℕ) (b : Body) (pr : Pair) → Holder s x key t p b pr → (place_in s.geometry x t p ≡ Full Live b) ⊎ (place_in s.geometry x t p ≡ Full Copied b)
+holder_word s x key t p b pr (live t1 p1 b1 pr1 w k i o) = inl w.stands
+holder_word s x key t p b pr (copied t1 p1 b1 pr1 w k i o parent m) = inr w.stands
+
+-- what a pass has held was read in its block
+pub was_read : (s : Setting) (key : List ℕ) (from since q : Past) (t : ℕ) (h : HeldWord) → Before from since → HeldAt s key since q t h → HolderRead s key h.value from q (block_of h)
+was_read s key from since q t h b x = record {
+  at = x.at;
+  from_then = Before-trans b x.from_then;
+  till = x.till;
+  table = t;
+  place = x.place;
+  body = x.body;
+  pair = x.pair;
+  holder = x.holder;
+  named = held_block h x.body (subst (λ w. (content w ≡ Full Live x.body) ⊎ (content w ≡ Full Copied x.body)) (ap (word_at s.geometry x.at) (sym x.slot) ∙ x.word) (holder_word s x.at key t x.place x.body x.pair x.holder));
+  value_is = x.value;
+}
+
+-- what is no reply of the map was read nowhere
+pub not_read : (s : Setting) (call : Call) (from q : Past) (reply : Reply) (source target : ℕ) → is_quiet reply ≡ false → WasRead s call from q reply source target
+not_read s call from q (reply.Found value) source target e = absurd (true_false e)
+not_read s call from q reply.Missing source target e = tt
+not_read s call from q reply.Inserted source target e = tt
+not_read s call from q (reply.Exists value) source target e = absurd (true_false e)
+not_read s call from q (reply.Updated value) source target e = tt
+not_read s call from q (reply.Deleted value) source target e = tt
+not_read s call from q (reply.Split table depth) source target e = tt
+not_read s call from q (reply.Again lost) source target e = tt
+not_read s call from q (reply.FullDepth depth) source target e = tt
+not_read s call from q (reply.FullWords next need) source target e = tt
+not_read s call from q (reply.NoBlock next need) source target e = tt
 
 -- a table that is told
 pub told : (P : ℕ → Type 0) (t u : ℕ) → Some t ≡ Some u → P t → P u

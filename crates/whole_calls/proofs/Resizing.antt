@@ -67,7 +67,7 @@ use Rattle.whole_calls.specs.Fits.{TicketFits}
 use Rattle.whole_calls.specs.Right.{Right, Cause}
 use Rattle.whole_calls.specs.Law.{IsSafeWithin, MayCall, ResizeIsSafe}
 use Rattle.whole_calls.proofs.Inside.{quiet_costs}
-use Rattle.whole_calls.proofs.Points.{false_true, told, own_state, state_is, may_walk}
+use Rattle.whole_calls.proofs.Points.{not_read, false_true, told, own_state, state_is, may_walk}
 use Rattle.whole_calls.proofs.Depths.{Full, full_on}
 use Rattle.whole_calls.proofs.Inserting.{plain_head, plain_not, head_depth, unseen}
 use Rattle.whole_calls.proofs.Walking.{walk_low, walk_deeper, walk_full, walk_new}
@@ -111,6 +111,7 @@ module _ (s : Setting) (c tries : ℕ) (key : List ℕ) (bytes : AreBytes key) (
     changing = λ e. absurd (false_true (sym x ∙ e));
     staying = λ e. same;
     quiet = λ e. absurd (false_true (sym y ∙ e));
+    read = not_read s (Resize key) (reverse first) (reverse m) reply 0 0 y;
     cause = cause;
     of_key = refl;
     start = st;

@@ -6,7 +6,7 @@ use Rattle.kv_block.specs.Packing.{Pair, packed}
 use Rattle.map_model.specs.declared.calls.Call.{Call}
 use Rattle.map_model.specs.declared.calls.Call.TheVariants.{Insert, Update, Resize}
 use Rattle.map_model.specs.declared.calls.Reply.{Reply}
-use Rattle.map_model.specs.declared.calls.Reply.TheVariants.{Inserted, Updated, Deleted, Split, Again, FullDepth, FullWords, NoBlock}
+use Rattle.map_model.specs.declared.calls.Reply.TheVariants.{Found, Inserted, Exists, Updated, Deleted, Split, Again, FullDepth, FullWords, NoBlock}
 use Rattle.map_model.specs.Machine.{key_of, reply_of, map_at, change_of, is_change, is_quiet}
 use Rattle.node_words.specs.Addresses.{table_words}
 use Rattle.verb_log.specs.declared.entry.Entry.{Entry}
@@ -15,6 +15,7 @@ use Rattle.verb_log.specs.Tables.{Past, Before}
 use Rattle.verbs.specs.Logs.{Entries}
 use Rattle.race_laws.specs.Setting.{Setting, hash}
 use Rattle.race_laws.specs.Standing.{header_in, key_header}
+use Rattle.race_laws.specs.Chains.{Holder}
 use Rattle.log_facts.specs.Start.{Start}
 use Rattle.log_facts.specs.Among.{changes_of}
 use Rattle.pass_text.specs.declared.passed.Passed.{Passed}
@@ -58,6 +59,25 @@ pub record AtPoint (s : Setting) (call : Call) (first l : Entries) (reply : Repl
   pub least : length (changes_of s first) ≤ point
   pub most : point ≤ length (changes_of s l)
   pub answers : reply_of (map_at (changes_of s l) point) call ≡ Some reply
+
+-- at a position of the call the key's holder named this block, which held the key and this value
+pub record HolderRead (s : Setting) (key value : List ℕ) (from q : Past) (block : ℕ) : Type 0 where
+  pub at : Past
+  pub from_then : Before from at
+  pub till : Before at q
+  pub table : ℕ
+  pub place : ℕ
+  pub body : Body
+  pub pair : Pair
+  pub holder : Holder s at key table place body pair
+  pub named : body.at ≡ block
+  pub value_is : pair.value ≡ value
+
+-- Found and Exists tell the block that was read, on both sides
+abbrev pub WasRead : Setting → Call → Past → Past → Reply → ℕ → ℕ → Type 0
+WasRead s call from q (Found value) source target = HolderRead s (key_of call) value from q source × (target ≡ source)
+WasRead s call from q (Exists value) source target = HolderRead s (key_of call) value from q source × (target ≡ source)
+WasRead s call from q _ source target = Unit {0}
 
 -- the last part of an insert found each candidate of a table occupied
 pub record NoPlace (s : Setting) (c : ℕ) (call : Call) (from q : Past) : Type 0 where
@@ -126,6 +146,8 @@ pub record Right (s : Setting) (c : ℕ) (call : Call) (k : State) (first : Entr
   pub staying : is_change e.reply ≡ false → changes_of s l ≡ before
   -- any other reply of the map is the map's at a point of the call
   pub quiet : is_quiet e.reply ≡ true → AtPoint s call first l e.reply
+  -- what was found was read in the block that is told
+  pub read : WasRead s call (reverse first) (reverse l) e.reply e.source e.target
   -- a refusal has its cause
   pub cause : Cause s c call k (reverse first) (reverse l) e.reply
   -- what the client keeps: a pass of the call's hash may start at the table that is told, the area is the client's, and the ticket
