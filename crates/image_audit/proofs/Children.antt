@@ -7,7 +7,6 @@ use Rattle.std.proofs.lemmas.Grind.{flat_map-append}
 use Rattle.std.proofs.lemmas.Nat.{pow-add}
 use Rattle.std.proofs.Math.Nat.{mod-eq_of_lt, mod-le}
 use Rattle.std.specs.FinMap as fin
-use Rattle.map_model.specs.Contents.{Contents}
 use Rattle.map_model.specs.Machine.{map_after}
 use Rattle.node_words.specs.declared.geometry.Geometry.{Geometry}
 use Rattle.node_words.specs.Addresses.{table_words, first_table, child_at}
@@ -25,6 +24,7 @@ use Rattle.image_laws.proofs.Members.{in_left, in_right, in_cases}
 use Rattle.image_laws.proofs.Tables.{child_if_is, child_if_back, firsts_back}
 use Rattle.image_laws.proofs.Offsets.{off_child}
 use Rattle.image_laws.proofs.Pairwise.{pairwise_append}
+use Rattle.image_audit.specs.Held.{Blocks, Hold}
 use Rattle.image_audit.specs.Kept.{AreFree, Marks, Kept, IsSmall, AllSmall}
 
 two_cases : (b : Bool) → (b ≡ true) ⊎ (b ≡ false)
@@ -42,7 +42,7 @@ pub listed_more : (g : Geometry) (w : Words) (before : List WalkWord) (x : WalkW
 listed_more g w before x = ap (λ v. firsts g ++ v) (named_more w before x) ∙ sym (append_assoc (firsts g) (flat_map (named_by w) before) (named_by w x))
 
 -- a word that names and holds nothing
-pub kept_on : (s : Setting) (w : Words) (place : ℕ → ℕ) (cells : ℕ) (before : List WalkWord) (x : WalkWord) (ts : List ImageTable) (ms : List Bool) (m : Contents) → Kept s w place cells before ts ms m → named_by w x ≡ [] → held_by w x ≡ [] → Kept s w place cells (before ++ x ∷ []) ts ms m
+pub kept_on : (s : Setting) (w : Words) (place : ℕ → ℕ) (cells : ℕ) (before : List WalkWord) (x : WalkWord) (ts : List ImageTable) (ms : List Bool) (m : Blocks) → Kept s w place cells before ts ms m → named_by w x ≡ [] → held_by w x ≡ [] → Kept s w place cells (before ++ x ∷ []) ts ms m
 kept_on s w place cells before x ts ms m k n h =
     let e = named_more w before x ∙ ap (λ v. flat_map (named_by w) before ++ v) n ∙ append-nil (flat_map (named_by w) before) in
     record {
@@ -52,10 +52,10 @@ kept_on s w place cells before x ts ms m k n h =
       given = λ u a. k.given u (subst (IsIn u) e a);
       only = λ j b. let r = k.only j b in (r.0, subst (IsIn r.0) (sym e) r.1, r.2, r.3, r.4, r.5);
       once = subst (λ v. Pairwise (λ (t u : ImageTable). t.at ≢ u.at) (firsts s.geometry ++ v)) (sym e) k.once;
-      map = k.map ∙ ap (λ v. map_after fin.empty (map sets v)) (sym (held_more w before x ∙ ap (λ v. held w before ++ v) h ∙ append-nil (held w before)));
+      map = subst (λ v. Hold s.geometry w m (map_after fin.empty (map sets v))) (sym (held_more w before x ∙ ap (λ v. held w before ++ v) h ∙ append-nil (held w before))) k.map;
     }
 
-module _ (s : Setting) (w : Words) (place : ℕ → ℕ) (cells : ℕ) (before : List WalkWord) (ts : List ImageTable) (ms : List Bool) (m : Contents) (k : Kept s w place cells before ts ms m) (t : ImageTable) (i : ℕ) (i16 : i < 16) where
+module _ (s : Setting) (w : Words) (place : ℕ → ℕ) (cells : ℕ) (before : List WalkWord) (ts : List ImageTable) (ms : List Bool) (m : Blocks) (k : Kept s w place cells before ts ms m) (t : ImageTable) (i : ℕ) (i16 : i < 16) where
   abbrev c : ℕ
   c = w (child_at t.at i)
 
@@ -147,7 +147,7 @@ module _ (s : Setting) (w : Words) (place : ℕ → ℕ) (cells : ℕ) (before :
             (λ y. (child_of w t i, more (child_of w t i) (inr refl), y.0, y.1, y.2, y.3)) (mk.only j b);
         once = subst (Pairwise (λ (t u : ImageTable). t.at ≢ u.at)) (sym (listed_more s.geometry w before x ∙ ap (λ v. listed_by s.geometry w before ++ v) named))
             (pairwise_append (λ (t u : ImageTable). t.at ≢ u.at) (listed_by s.geometry w before) (child_of w t i ∷ []) k.once ((λ y a. absurd a), tt) (λ y z a b. other y z a b));
-        map = k.map ∙ ap (λ v. map_after fin.empty (map sets v)) (sym (held_more w before x ∙ ap (λ v. held w before ++ v) none_held ∙ append-nil (held w before)));
+        map = subst (λ v. Hold s.geometry w m (map_after fin.empty (map sets v))) (sym (held_more w before x ∙ ap (λ v. held w before ++ v) none_held ∙ append-nil (held w before))) k.map;
       },
     )
       where
@@ -176,7 +176,7 @@ module _ (s : Setting) (w : Words) (place : ℕ → ℕ) (cells : ℕ) (before :
         more u (inr e) = subst (IsIn u) (sym (named_more w before x)) (in_right u (flat_map (named_by w) before) (named_by w x) (subst (IsIn u) (sym named) (inl e)))
 
 -- the same, of what the code has read
-module _ (s : Setting) (w : Words) (place : ℕ → ℕ) (cells : ℕ) (before : List WalkWord) (ts : List ImageTable) (ms : List Bool) (m : Contents) (k : Kept s w place cells before ts ms m) (t : ImageTable) (i : ℕ) (i16 : i < 16) (v : Bool) (d ch : ℕ) (e : IsTrue v ↔ ((t.depth ≤ i) × (i < d))) (de : d ≡ depth_in w t.at) (ce : ch ≡ w (child_at t.at i)) where
+module _ (s : Setting) (w : Words) (place : ℕ → ℕ) (cells : ℕ) (before : List WalkWord) (ts : List ImageTable) (ms : List Bool) (m : Blocks) (k : Kept s w place cells before ts ms m) (t : ImageTable) (i : ℕ) (i16 : i < 16) (v : Bool) (d ch : ℕ) (e : IsTrue v ↔ ((t.depth ≤ i) × (i < d))) (de : d ≡ depth_in w t.at) (ce : ch ≡ w (child_at t.at i)) where
   wanted : v ≡ true → (t.depth ≤ i) × (i < depth_in w t.at)
   wanted z = let y = e.0 z in (y.0, subst (λ u. i < u) de y.1)
 
@@ -213,7 +213,7 @@ module _ (s : Setting) (w : Words) (place : ℕ → ℕ) (cells : ℕ) (before :
         (subst (λ y. AreFree s.geometry w place ms y (table_words s.geometry)) ce (subst (AreFree s.geometry w place ms ch) en fr))
         (subst (λ y. Marks place ms ns y (table_words s.geometry)) ce (subst (Marks place ms ns ch) en mk)))
 
-    pub added_judged : (us : List ImageTable) (ns : List Bool) (m2 : Contents) → ch ≢ 0 → v ≡ true → (n : ℕ) → n ≡ table_words s.geometry → AreFree s.geometry w place ms ch n → us ≡ ts ++ record { at = ch; depth = i + 1; suffix = t.suffix + 1 * 2 ^ i % 4294967296; parent = t.at } ∷ [] → Marks place ms ns ch n → m2 ≡ m → Rule s w before (TableWord t (4 + i)) × Kept s w place cells (before ++ TableWord t (4 + i) ∷ []) us ns m2
+    pub added_judged : (us : List ImageTable) (ns : List Bool) (m2 : Blocks) → ch ≢ 0 → v ≡ true → (n : ℕ) → n ≡ table_words s.geometry → AreFree s.geometry w place ms ch n → us ≡ ts ++ record { at = ch; depth = i + 1; suffix = t.suffix + 1 * 2 ^ i % 4294967296; parent = t.at } ∷ [] → Marks place ms ns ch n → m2 ≡ m → Rule s w before (TableWord t (4 + i)) × Kept s w place cells (before ++ TableWord t (4 + i) ∷ []) us ns m2
     added_judged us ns m2 z x n en fr ue mk me = subst (λ y. Rule s w before (TableWord t (4 + i)) × Kept s w place cells (before ++ TableWord t (4 + i) ∷ []) y ns m2) (sym ue)
         (subst (λ y. Rule s w before (TableWord t (4 + i)) × Kept s w place cells (before ++ TableWord t (4 + i) ∷ []) (ts ++ record { at = ch; depth = i + 1; suffix = t.suffix + 1 * 2 ^ i % 4294967296; parent = t.at } ∷ []) ns y) (sym me)
         (fine_judged ns (record { at = ch; depth = i + 1; suffix = t.suffix + 1 * 2 ^ i % 4294967296; parent = t.at }) z x n en fr mk (built ch (t.suffix + 1 * 2 ^ i % 4294967296) (w (child_at t.at i)) (t.suffix + 2 ^ i) (i + 1) t.at ce (ap (λ y. t.suffix + y) (shifted i i16)))))

@@ -12,7 +12,6 @@ use Rattle.std.proofs.lemmas.Grind.{flat_map-append}
 use Rattle.std.proofs.lemmas.List.FromFn.{map-range_with_len_more}
 use Rattle.std.specs.BTreeMap as tree
 use Rattle.std.specs.FinMap as fin
-use Rattle.map_model.specs.Contents.{Contents}
 use Rattle.map_model.specs.Machine.{map_after}
 use Rattle.node_words.specs.declared.geometry.Geometry.{Geometry}
 use Rattle.node_words.specs.Addresses.{first_table, directory_at, first_free}
@@ -27,9 +26,10 @@ use Rattle.image_laws.specs.Sound.{DirectoryRule, Rule, NextsFit, IsSound, First
 use Rattle.image_laws.specs.Pairwise.{Pairwise}
 use Rattle.image_laws.proofs.Members.{in_left, in_right, in_cases}
 use Rattle.image_laws.proofs.Tables.{tables_all, firsts_back}
-use Rattle.image_laws.specs.Answers.{sets, map_held}
+use Rattle.image_laws.specs.Answers.{sets}
 use Rattle.image_laws.proofs.Whole.{whole, named_tables}
 use Rattle.image_audit.specs.Breaks.{AllMeet, Breaks}
+use Rattle.image_audit.specs.Held.{Blocks, Hold, map_walked}
 use Rattle.image_audit.specs.Kept.{Indexes, Kept, IsSmall, AllSmall}
 use Rattle.image_audit.proofs.Loops.{meets_append, range_split, map_split}
 
@@ -180,11 +180,14 @@ small_firsts g t h =
     first_low : (g : Geometry) (j : ℕ) → j < 2 ^ g.first_depth → first_table g j < first_free g
     first_low g j h = let x = first_table_ends g j h in omega arith
 
-pub kept_listed : (s : Setting) (w : Words) (place : ℕ → ℕ) (cells : ℕ) (us : List ImageTable) (ns : List Bool) (n : Contents) → Kept s w place cells (flat_map (words_of s.geometry) (tables s.geometry w)) us ns n → us ≡ tables s.geometry w
+pub kept_listed : (s : Setting) (w : Words) (place : ℕ → ℕ) (cells : ℕ) (us : List ImageTable) (ns : List Bool) (n : Blocks) → Kept s w place cells (flat_map (words_of s.geometry) (tables s.geometry w)) us ns n → us ≡ tables s.geometry w
 kept_listed s w place cells us ns n k = k.listed ∙ ap (λ v. firsts s.geometry ++ v) (named_tables s.geometry w (tables s.geometry w)) ∙ sym (whole s.geometry w)
 
-pub kept_map : (s : Setting) (w : Words) (place : ℕ → ℕ) (cells : ℕ) (us : List ImageTable) (ns : List Bool) (n : Contents) → Kept s w place cells (flat_map (words_of s.geometry) (tables s.geometry w)) us ns n → n ≡ map_held s w
-kept_map s w place cells us ns n k = k.map ∙ ap (λ v. map_after fin.empty (map sets v)) (sym (ap (held w) (walk_is s.geometry w) ∙ flat_map-append (held_by w) (flat_map (words_of s.geometry) (tables s.geometry w)) (last_words (2 ^ s.geometry.max_depth)) ∙ ap (λ v. held w (flat_map (words_of s.geometry) (tables s.geometry w)) ++ v) (none (2 ^ s.geometry.max_depth) 0) ∙ append-nil (held w (flat_map (words_of s.geometry) (tables s.geometry w)))))
+pub kept_map : (s : Setting) (w : Words) (place : ℕ → ℕ) (cells : ℕ) (us : List ImageTable) (ns : List Bool) (n : Blocks) → Kept s w place cells (flat_map (words_of s.geometry) (tables s.geometry w)) us ns n → Hold s.geometry w n (map_walked s.geometry w)
+kept_map s w place cells us ns n k =
+    subst (λ v. Hold s.geometry w n (map_after fin.empty (map sets v)))
+    (sym (ap (held w) (walk_is s.geometry w) ∙ flat_map-append (held_by w) (flat_map (words_of s.geometry) (tables s.geometry w)) (last_words (2 ^ s.geometry.max_depth)) ∙ ap (λ v. held w (flat_map (words_of s.geometry) (tables s.geometry w)) ++ v) (none (2 ^ s.geometry.max_depth) 0) ∙ append-nil (held w (flat_map (words_of s.geometry) (tables s.geometry w)))))
+    k.map
   where
     none : (n a : ℕ) → held w (map DirectoryEntry (range_with_len a n)) ≡ []
     none zero a = refl

@@ -3,19 +3,19 @@ use Rattle.std.specs.Prelude.{◌≡◌, ◌≢◌, ℕ, ◌+◌, ◌*◌, ◌/�
 use Rattle.std.proofs.Common.{sym, ◌∙◌, ap, subst, inl, inr, arith, ⊎_elim}
 use Rattle.std.proofs.lemmas.Bool.Decides.{nat_tests}
 use Rattle.slot_word.specs.Births.{birth_word}
-use Rattle.map_model.specs.Contents.{Contents}
 use Rattle.node_words.specs.declared.geometry.Geometry.{Geometry}
 use Rattle.node_words.specs.Addresses.{header_at}
 use Rattle.node_words.specs.Roles.{Role, BirthWord, HeaderWord, LockWord, ReservedWord, BucketWord, role_in, offset_role}
 use Rattle.node_words.proofs.OpeningWords.{in_table}
-use Rattle.node_words.proofs.RoleLemmas.{reserved_role, overflow_role, bucket_role, bucket_number}
+use Rattle.node_words.proofs.RoleLemmas.{reserved_role, overflow_role}
 use Rattle.verb_log.specs.Decoded.{Header, PlainAt, SplittingAt, FillingAt, NoHeader, header}
 use Rattle.race_laws.specs.Setting.{Setting}
 use Rattle.race_laws.proofs.Touch.{same_or_not}
 use Rattle.image_laws.specs.declared.table.ImageTable.{ImageTable}
 use Rattle.image_laws.specs.Walk.{Words, named_as, WalkWord, TableWord}
 use Rattle.image_laws.specs.Sound.{held_as, HeaderRule, TableRule, PlainRule}
-use Rattle.image_laws.proofs.Offsets.{off_birth, off_header, off_lock}
+use Rattle.image_laws.proofs.Offsets.{off_birth, off_header, off_lock, off_bucket, bucket_of}
+use Rattle.image_audit.specs.Held.{Blocks}
 use Rattle.image_audit.specs.Kept.{Judged, IsPlainWithin}
 use Rattle.image_audit.proofs.Children.{kept_on}
 
@@ -31,25 +31,13 @@ off_overflow g t p h = sym (in_table g t (20 + p)) ∙ ap (λ a. role_in g a (So
     place : (t p k : ℕ) → p ≡ 24 * k + 8 → t + (20 + p) ≡ t + 20 + (24 * k + 8)
     place t p k e = omega arith
 
-abbrev pub bucket_of : ℕ → ℕ
-bucket_of p = p / 24 * 2 + p % 24 / 16
-
-off_bucket : (g : Geometry) (t p : ℕ) → p % 8 ≡ 0 → p % 24 ≢ 8 → offset_role t (20 + p) ≡ BucketWord t (bucket_of p)
-off_bucket g t p h k = sym (in_table g t (20 + p)) ∙ ap (λ a. role_in g a (Some t)) (place t p (24 * (bucket_of p / 2) + 16 * (bucket_of p % 2)) (bucket_number p h k)) ∙ ap (λ a. role_in g a (Some t)) (same t (24 * (bucket_of p / 2)) (16 * (bucket_of p % 2))) ∙ bucket_role g t (bucket_of p)
-  where
-    place : (t p x : ℕ) → p ≡ x → t + (20 + p) ≡ t + (20 + x)
-    place t p x e = omega arith
-
-    same : (t x y : ℕ) → t + (20 + (x + y)) ≡ t + 20 + x + y
-    same t x y = omega arith
-
 is_same : (x y : ℕ) → (x == y) ≡ true → x ≡ y
 is_same x y h = grind (arith, nat_tests)
 
 not_same : (x y : ℕ) → (x == y) ≡ false → x ≢ y
 not_same x y h = grind (arith, nat_tests)
 
-module _ (s : Setting) (w : Words) (place : ℕ → ℕ) (cells : ℕ) (t : ImageTable) (o : ℕ) (ts : List ImageTable) (ms : List Bool) (m : Contents) where
+module _ (s : Setting) (w : Words) (place : ℕ → ℕ) (cells : ℕ) (t : ImageTable) (o : ℕ) (ts : List ImageTable) (ms : List Bool) (m : Blocks) where
   by_role : (v : Bool) (r : Role) → offset_role t.at o ≡ r → named_as w t r ≡ [] → held_as w t r ≡ [] → (v ≡ true → (before : List WalkWord) → TableRule s w before t r × PlainRule w t o r) → (v ≡ false → (before : List WalkWord) → TableRule s w before t r → PlainRule w t o r → ⊥) → Judged s w place cells (TableWord t o) v ts ms m ts ms m
   by_role v r e n h good bad before k = (
     (λ x. (subst (λ z. TableRule s w before t z × PlainRule w t o z) (sym e) (good x before), kept_on s w place cells before (TableWord t o) ts ms m k (ap (named_as w t) e ∙ n) (ap (held_as w t) e ∙ h))),
@@ -99,5 +87,5 @@ module _ (s : Setting) (w : Words) (place : ℕ → ℕ) (cells : ℕ) (t : Imag
   bucket_judged p e h k x y xe ye = by_role (x == y) (BucketWord t.at (bucket_of p)) (ap (offset_role t.at) e ∙ off_bucket s.geometry t.at p h k) refl refl (λ z before. (tt, sym xe ∙ is_same x y z ∙ ye)) (λ z before r q. not_same x y z (xe ∙ q ∙ sym ye))
 
 -- a word named by another offset
-pub judged_at : (s : Setting) (w : Words) (place : ℕ → ℕ) (cells : ℕ) (t : ImageTable) (o p : ℕ) (v : Bool) (ts us : List ImageTable) (ms ns : List Bool) (m n : Contents) → p ≡ o → Judged s w place cells (TableWord t p) v ts ms m us ns n → Judged s w place cells (TableWord t o) v ts ms m us ns n
+pub judged_at : (s : Setting) (w : Words) (place : ℕ → ℕ) (cells : ℕ) (t : ImageTable) (o p : ℕ) (v : Bool) (ts us : List ImageTable) (ms ns : List Bool) (m n : Blocks) → p ≡ o → Judged s w place cells (TableWord t p) v ts ms m us ns n → Judged s w place cells (TableWord t o) v ts ms m us ns n
 judged_at s w place cells t o p v ts us ms ns m n e j = subst (λ z. Judged s w place cells (TableWord t z) v ts ms m us ns n) e j

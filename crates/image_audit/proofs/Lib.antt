@@ -1,3 +1,4 @@
+pub mod HeldWords
 pub mod Children
 pub mod Judging
 pub mod Loops

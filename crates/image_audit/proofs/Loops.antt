@@ -6,7 +6,10 @@ use Rattle.std.proofs.lemmas.List.{take-append-drop}
 use Rattle.std.proofs.lemmas.Grind.{flat_map-append}
 use Rattle.std.proofs.lemmas.List.FromFn.{map-range_with_len_more}
 use Rattle.std.specs.FinMap as fin
-use Rattle.map_model.specs.Contents.{Contents}
+use Rattle.std.specs.BTreeMap as tree
+use Rattle.std.specs.BTreeMap.{is_at}
+use Rattle.std.specs.Map.{lookup}
+use Rattle.kv_block.specs.Bytes.{key_cmp}
 use Rattle.node_words.specs.declared.geometry.Geometry.{Geometry}
 use Rattle.node_words.proofs.FirstTables.{first_table_apart}
 use Rattle.race_laws.specs.Setting.{Setting}
@@ -18,6 +21,7 @@ use Rattle.image_laws.specs.Pairwise.{Pairwise}
 use Rattle.image_laws.proofs.Pairwise.{pairwise_map, pairwise_range}
 use Rattle.image_laws.proofs.Whole.{front, all_walked, next_table, next_low, next_front}
 use Rattle.image_audit.specs.Kept.{Kept, Judged, IsSmall, AllSmall, Walked, SoFar, Through}
+use Rattle.image_audit.specs.Held.{Blocks}
 use Rattle.image_audit.specs.Breaks.{AllMeet, Breaks}
 
 pub meets_append : (R : List WalkWord → WalkWord → Type 0) (before xs ys : List WalkWord) → AllMeet R before xs → AllMeet R (before ++ xs) ys → AllMeet R before (xs ++ ys)
@@ -62,20 +66,20 @@ firsts_once : (g : Geometry) → Pairwise (λ (t u : ImageTable). t.at ≢ u.at)
 firsts_once g = pairwise_map (λ i j. i < j) (λ (t u : ImageTable). t.at ≢ u.at) (first_of g) (range_with_len 0 (2 ^ g.first_depth)) (pairwise_range 0 (2 ^ g.first_depth)) (λ i j low e. let x = first_table_apart g i j low in omega arith)
 
 module _ (s : Setting) (w : Words) (place : ℕ → ℕ) (cells : ℕ) where
-  pub so_far_start : (ts : List ImageTable) (ms : List Bool) (m : Contents) → length ms ≡ cells → SoFar s w place cells [] ts ms m ts ms m
+  pub so_far_start : (ts : List ImageTable) (ms : List Bool) (m : Blocks) → length ms ≡ cells → SoFar s w place cells [] ts ms m ts ms m
   so_far_start ts ms m e = record { walked = λ before k. (tt, subst (λ v. Kept s w place cells v ts ms m) (sym (append-nil before)) k); cells = e; small = λ a. a }
 
-  pub so_far_word : (x : WalkWord) (xs : List WalkWord) (ts us vs : List ImageTable) (ms ns ls : List Bool) (m n p : Contents) (v : Bool) → SoFar s w place cells xs ts ms m us ns n → Judged s w place cells x v us ns n vs ls p → v ≡ true → length ls ≡ cells → (AllSmall us → AllSmall vs) → SoFar s w place cells (xs ++ x ∷ []) ts ms m vs ls p
+  pub so_far_word : (x : WalkWord) (xs : List WalkWord) (ts us vs : List ImageTable) (ms ns ls : List Bool) (m n p : Blocks) (v : Bool) → SoFar s w place cells xs ts ms m us ns n → Judged s w place cells x v us ns n vs ls p → v ≡ true → length ls ≡ cells → (AllSmall us → AllSmall vs) → SoFar s w place cells (xs ++ x ∷ []) ts ms m vs ls p
   so_far_word x xs ts us vs ms ns ls m n p v h j e c sm = record {
     walked = λ before k. let a = h.walked before k in let b = (j (before ++ xs) a.1).0 e in (meets_append (Rule s w) before xs (x ∷ []) a.0 (b.0, tt), subst (λ z. Kept s w place cells z vs ls p) (append_assoc before xs (x ∷ [])) b.1);
     cells = c;
     small = λ a. sm (h.small a);
   }
 
-  pub so_far_stop : (x : WalkWord) (xs rest all : List WalkWord) (at : ℕ) (ts us vs : List ImageTable) (ms ns ls : List Bool) (m n p : Contents) (v : Bool) → SoFar s w place cells xs ts ms m us ns n → Judged s w place cells x v us ns n vs ls p → v ≡ false → all ≡ xs ++ x ∷ rest → at ≡ address_of x → (before : List WalkWord) → Kept s w place cells before ts ms m → Breaks (Rule s w) before all at
+  pub so_far_stop : (x : WalkWord) (xs rest all : List WalkWord) (at : ℕ) (ts us vs : List ImageTable) (ms ns ls : List Bool) (m n p : Blocks) (v : Bool) → SoFar s w place cells xs ts ms m us ns n → Judged s w place cells x v us ns n vs ls p → v ≡ false → all ≡ xs ++ x ∷ rest → at ≡ address_of x → (before : List WalkWord) → Kept s w place cells before ts ms m → Breaks (Rule s w) before all at
   so_far_stop x xs rest all at ts us vs ms ns ls m n p v h j e ae ad before k = let a = h.walked before k in record { front = xs; word = x; rest = rest; is = ae; meets = a.0; breaks = (j (before ++ xs) a.1).1 e; address = ad }
 
-  pub so_far_whole : (xs ys : List WalkWord) (ts us : List ImageTable) (ms ns : List Bool) (m n : Contents) → xs ≡ ys → SoFar s w place cells xs ts ms m us ns n → SoFar s w place cells ys ts ms m us ns n
+  pub so_far_whole : (xs ys : List WalkWord) (ts us : List ImageTable) (ms ns : List Bool) (m n : Blocks) → xs ≡ ys → SoFar s w place cells xs ts ms m us ns n → SoFar s w place cells ys ts ms m us ns n
   so_far_whole xs ys ts us ms ns m n e h = subst (λ v. SoFar s w place cells v ts ms m us ns n) e h
 
   -- the words of a table
@@ -94,7 +98,7 @@ module _ (s : Setting) (w : Words) (place : ℕ → ℕ) (cells : ℕ) where
       plus o = omega arith
 
   -- all tables
-  pub through_start : (ts : List ImageTable) (ms : List Bool) (m : Contents) → ts ≡ firsts s.geometry → length ms ≡ cells → ((j : ℕ) → slice_index_or ms j false ≡ false) → m ≡ fin.empty → AllSmall ts → Through s w place cells 0 ts ms m
+  pub through_start : (ts : List ImageTable) (ms : List Bool) (m : Blocks) → ts ≡ firsts s.geometry → length ms ≡ cells → ((j : ℕ) → slice_index_or ms j false ≡ false) → tree.IsEmpty m → AllSmall ts → Through s w place cells 0 ts ms m
   through_start ts ms m te c un me sm = record {
     meets = tt;
     kept = record {
@@ -104,13 +108,13 @@ module _ (s : Setting) (w : Words) (place : ℕ → ℕ) (cells : ℕ) where
       given = λ u a. absurd a;
       only = λ j b. let x = un j in absurd (cc);
       once = subst (Pairwise (λ (t u : ImageTable). t.at ≢ u.at)) (sym (append-nil (firsts s.geometry))) (firsts_once s.geometry);
-      map = me;
+      map = record { words = λ key word e. let x = ap (lookup {K = List ℕ} {X = ℕ} (is_at (key_cmp key))) me in absurd (cc); lacks = λ key e. fin.get-empty key_cmp key };
     };
     low = omega arith;
     small = sm;
   }
 
-  module _ (k : ℕ) (us : List ImageTable) (ns : List Bool) (n : Contents) (h : Through s w place cells k us ns n) where
+  module _ (k : ℕ) (us : List ImageTable) (ns : List Bool) (n : Blocks) (h : Through s w place cells k us ns n) where
     abbrev seen : List WalkWord
     seen = front s.geometry w k
 
@@ -119,7 +123,7 @@ module _ (s : Setting) (w : Words) (place : ℕ → ℕ) (cells : ℕ) where
         let size : k < length (listed_by s.geometry w seen) = subst (λ v. k < length v) h.kept.listed low in
         (e ∙ ap (λ v. get_or v k t) h.kept.listed ∙ next_table s.geometry w k t size, size)
 
-    grows : (xs : List WalkWord) (vs : List ImageTable) (ls : List Bool) (p : Contents) → Kept s w place cells (seen ++ xs) vs ls p → length us ≤ length vs
+    grows : (xs : List WalkWord) (vs : List ImageTable) (ls : List Bool) (p : Blocks) → Kept s w place cells (seen ++ xs) vs ls p → length us ≤ length vs
     grows xs vs ls p kp =
         let a = ap length h.kept.listed in
         let b = ap length kp.listed in
@@ -129,7 +133,7 @@ module _ (s : Setting) (w : Words) (place : ℕ → ℕ) (cells : ℕ) where
         let z = length-append (flat_map (named_by w) seen) (flat_map (named_by w) xs) in
         omega arith
 
-    pub through_next : (t : ImageTable) → k < length us → t ≡ get_or us k t → (vs : List ImageTable) (ls : List Bool) (p : Contents) → AllMeet (Rule s w) seen (words_of s.geometry t) × Kept s w place cells (seen ++ words_of s.geometry t) vs ls p → (AllSmall us → AllSmall vs) → Through s w place cells (k + 1) vs ls p
+    pub through_next : (t : ImageTable) → k < length us → t ≡ get_or us k t → (vs : List ImageTable) (ls : List Bool) (p : Blocks) → AllMeet (Rule s w) seen (words_of s.geometry t) × Kept s w place cells (seen ++ words_of s.geometry t) vs ls p → (AllSmall us → AllSmall vs) → Through s w place cells (k + 1) vs ls p
     through_next t low e vs ls p r sm =
         let x = next_is t low e in
         let f : front s.geometry w (k + 1) ≡ seen ++ words_of s.geometry t = next_front s.geometry w k t x.1 ∙ ap (λ v. seen ++ words_of s.geometry v) (sym x.0) in
@@ -166,10 +170,10 @@ module _ (s : Setting) (w : Words) (place : ℕ → ℕ) (cells : ℕ) where
         regroup : (a b : List WalkWord) (x : WalkWord) (c d : List WalkWord) → (a ++ (b ++ x ∷ c)) ++ d ≡ (a ++ b) ++ x ∷ (c ++ d)
         regroup a b x c d = simp append_assoc
 
-    pub through_none : (t : ImageTable) → k < length us → t ≡ get_or us k t → (stop : Option ℕ) (vs : List ImageTable) (ls : List Bool) (p : Contents) → stop ≡ None → Walked s w place cells (words_of s.geometry t) stop us ns n vs ls p → (AllSmall us → AllSmall vs) → Through s w place cells (k + 1) vs ls p
+    pub through_none : (t : ImageTable) → k < length us → t ≡ get_or us k t → (stop : Option ℕ) (vs : List ImageTable) (ls : List Bool) (p : Blocks) → stop ≡ None → Walked s w place cells (words_of s.geometry t) stop us ns n vs ls p → (AllSmall us → AllSmall vs) → Through s w place cells (k + 1) vs ls p
     through_none t low e stop vs ls p f j sm = through_next t low e vs ls p (none_of _ _ stop f (j seen h.kept)) sm
 
-    pub through_some : (t : ImageTable) → k < length us → t ≡ get_or us k t → (stop : Option ℕ) (at : ℕ) (vs : List ImageTable) (ls : List Bool) (p : Contents) → stop ≡ Some at → Walked s w place cells (words_of s.geometry t) stop us ns n vs ls p → Breaks (Rule s w) [] (flat_map (words_of s.geometry) (tables s.geometry w)) at
+    pub through_some : (t : ImageTable) → k < length us → t ≡ get_or us k t → (stop : Option ℕ) (at : ℕ) (vs : List ImageTable) (ls : List Bool) (p : Blocks) → stop ≡ Some at → Walked s w place cells (words_of s.geometry t) stop us ns n vs ls p → Breaks (Rule s w) [] (flat_map (words_of s.geometry) (tables s.geometry w)) at
     through_some t low e stop at vs ls p f j = through_stop t low e at (some_of _ _ stop at f (j seen h.kept))
 
     pub small_next : (t : ImageTable) → k < length us → t ≡ get_or us k t → IsSmall t

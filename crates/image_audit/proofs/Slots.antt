@@ -4,6 +4,7 @@ use Rattle.std.proofs.Common.{sym, ◌∙◌, ap, subst, inl, inr, arith, ⊎_el
 use Rattle.std.proofs.lemmas.List.{take_more_set}
 use Rattle.std.specs.List.{flat_map}
 use Rattle.std.specs.FinMap as fin
+use Rattle.std.specs.BTreeMap as tree
 use Rattle.slot_word.specs.declared.slots.Mark.TheVariants.{Live}
 use Rattle.kv_block.specs.Bytes.{key_cmp, key_eq}
 use Rattle.kv_block.specs.Packing.{Pair}
@@ -26,7 +27,9 @@ use Rattle.image_laws.specs.Answers.{sets}
 use Rattle.image_laws.specs.Pairwise.{Pairwise}
 use Rattle.image_laws.proofs.Offsets.{off_slot}
 use Rattle.image_laws.proofs.SetPairs.{key_cases}
-use Rattle.image_audit.specs.Kept.{Kept, IsAtHome, IsKeptPair}
+use Rattle.image_audit.specs.Held.{Blocks, Hold}
+use Rattle.image_audit.specs.Kept.{Kept, IsAtHome, IsKeptBlock}
+use Rattle.image_audit.proofs.HeldWords.{hold_more}
 use Rattle.image_audit.proofs.Children.{kept_on, named_more, held_more}
 use Rattle.key_hash.specs.Placing.{placed}
 
@@ -100,7 +103,7 @@ has key v (z ∷ qs) m e n = by (key_cases key z.key) (λ k. has key v qs (chang
     by (inl k) ih = (z, inl refl, sym k)
     by (inr k) ih = let r = ih k in (r.0, inr r.1, r.2)
 
-module _ (s : Setting) (w : Words) (place : ℕ → ℕ) (cells : ℕ) (before : List WalkWord) (ts : List ImageTable) (ms : List Bool) (m : Contents) (k : Kept s w place cells before ts ms m) (t : ImageTable) (p : ℕ) (ps : p % 8 ≢ 0) where
+module _ (s : Setting) (w : Words) (place : ℕ → ℕ) (cells : ℕ) (before : List WalkWord) (ts : List ImageTable) (ms : List Bool) (m : Blocks) (k : Kept s w place cells before ts ms m) (t : ImageTable) (p : ℕ) (ps : p % 8 ≢ 0) where
   abbrev x : WalkWord
   x = TableWord t (20 + p)
 
@@ -155,15 +158,16 @@ module _ (s : Setting) (w : Words) (place : ℕ → ℕ) (cells : ℕ) (before :
           })
 
       module _ (home : IsAtHome s.geometry.groups h t d p b.print) where
-        pub known_slot : (v : List ℕ) → fin.get m q.key ≡ Some v → Rule s w before x → ⊥
+        pub known_slot : (v : ℕ) → tree.get key_cmp m q.key ≡ Some v → Rule s w before x → ⊥
         known_slot v g r =
             let l = lives r in
             let z = same_pair l.0 l.1 in
-            let y = has q.key v (held w before) fin.empty (sym (ap (λ c. fin.get c q.key) k.map) ∙ g) (fin.get-empty key_cmp q.key) in
+            let i = k.map.words q.key v g in
+            let y = has q.key i.0.pair.value (held w before) fin.empty (ap (fin.get (map_after fin.empty (map sets (held w before)))) (sym i.1) ∙ i.0.has) (fin.get-empty key_cmp q.key) in
             l.0.once y.0 y.1 (y.2 ∙ ap (λ (u : Pair). u.key) (sym z))
 
-        pub new_slot : ((a : ℕ) → b.at ≤ a → a < b.at + b.length → IsTaken s.geometry w a) → fin.get m q.key ≡ None → Rule s w before x × Kept s w place cells (before ++ x ∷ []) ts ms (changed m (sets q))
-        new_slot tk g = (
+        pub new_slot : (n2 : Blocks) → ((a : ℕ) → b.at ≤ a → a < b.at + b.length → IsTaken s.geometry w a) → IsKeptBlock true m n2 q.key word → Rule s w before x × Kept s w place cells (before ++ x ∷ []) ts ms n2
+        new_slot n2 tk g = (
           to_rule (inr (record {
             body = b;
             pair = q;
@@ -174,7 +178,7 @@ module _ (s : Setting) (w : Words) (place : ℕ → ℕ) (cells : ℕ) (before :
             suffix = sym home.suffix ∙ ap (λ v. v % 2 ^ t.depth) he;
             stays = λ i f. subst (λ v. v ≤ i) de (home.stays i (ap (λ v. exit_level v t.depth) he ∙ f));
             candidate = subst (λ v. IsIn p (candidates s.geometry.groups v)) he home.candidate;
-            once = λ z a f. lacks q.key (held w before) fin.empty (sym (ap (λ c. fin.get c q.key) k.map) ∙ g) z a f;
+            once = λ z a f. lacks q.key (held w before) fin.empty (k.map.lacks q.key g.0) z a f;
           })),
           record {
             listed = k.listed ∙ sym (ap (λ v. firsts s.geometry ++ v) same_named);
@@ -183,16 +187,17 @@ module _ (s : Setting) (w : Words) (place : ℕ → ℕ) (cells : ℕ) (before :
             given = λ u a. k.given u (subst (IsIn u) same_named a);
             only = λ j c. let r = k.only j c in (r.0, subst (IsIn r.0) (sym same_named) r.1, r.2, r.3, r.4, r.5);
             once = subst (λ v. Pairwise (λ (t u : ImageTable). t.at ≢ u.at) (firsts s.geometry ++ v)) (sym same_named) k.once;
-            map = ap (λ c. changed c (sets q)) k.map ∙ sym (after_more fin.empty (held w before) q) ∙ ap (λ v. map_after fin.empty (map sets v)) (sym (held_more w before x ∙ ap (λ v. held w before ++ v) (holds ∙ ap (held_in w) e ∙ ap one_pair pk)));
+            map = subst (λ v. Hold s.geometry w n2 v) (sym (after_more fin.empty (held w before) q) ∙ ap (λ v. map_after fin.empty (map sets v)) (sym (held_more w before x ∙ ap (λ v. held w before ++ v) (holds ∙ ap (held_in w) e ∙ ap one_pair pk))))
+                (hold_more s.geometry w m n2 (map_after fin.empty (map sets (held w before))) word q k.map (record { body = b; stands = e; taken = tk; packs = pk }) g.1);
           },
         )
           where
             same_named : flat_map (named_by w) (before ++ x ∷ []) ≡ flat_map (named_by w) before
             same_named = named_more w before x ∙ ap (λ v. flat_map (named_by w) before ++ v) none_named ∙ append-nil (flat_map (named_by w) before)
 
-        pub kept_slot : (fresh : Bool) (us : List ImageTable) (ns : List Bool) (n2 : Contents) → ((a : ℕ) → b.at ≤ a → a < b.at + b.length → IsTaken s.geometry w a) → IsKeptPair fresh m n2 q.key q.value → us ≡ ts → ns ≡ ms → (fresh ≡ true → Rule s w before x × Kept s w place cells (before ++ x ∷ []) us ns n2) × (fresh ≡ false → Rule s w before x → ⊥)
+        pub kept_slot : (fresh : Bool) (us : List ImageTable) (ns : List Bool) (n2 : Blocks) → ((a : ℕ) → b.at ≤ a → a < b.at + b.length → IsTaken s.geometry w a) → IsKeptBlock fresh m n2 q.key word → us ≡ ts → ns ≡ ms → (fresh ≡ true → Rule s w before x × Kept s w place cells (before ++ x ∷ []) us ns n2) × (fresh ≡ false → Rule s w before x → ⊥)
         kept_slot true us ns n2 tk kp ue ne = (
-          (λ z. let r = new_slot tk kp.0 in subst (λ v. Rule s w before x × Kept s w place cells (before ++ x ∷ []) v ns n2) (sym ue) (subst (λ v. Rule s w before x × Kept s w place cells (before ++ x ∷ []) ts v n2) (sym ne) (subst (λ v. Rule s w before x × Kept s w place cells (before ++ x ∷ []) ts ms v) (sym kp.1) r))),
+          (λ z. subst (λ v. Rule s w before x × Kept s w place cells (before ++ x ∷ []) v ns n2) (sym ue) (subst (λ v. Rule s w before x × Kept s w place cells (before ++ x ∷ []) ts v n2) (sym ne) (new_slot n2 tk kp))),
           (λ z r. absurd (cc)),
         )
         kept_slot false us ns n2 tk kp ue ne = ((λ z. absurd (cc)), (λ z r. known_slot kp.0 kp.1 r))

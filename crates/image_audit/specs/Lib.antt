@@ -1,4 +1,5 @@
 pub mod Breaks
+pub mod Held
 pub mod Kept
 pub mod Outcome
 pub mod Shape

@@ -9,12 +9,14 @@ ghost use Rattle.image_audit.specs.Outcome.{IsAudit};
 
 use crate::auditor::Auditor;
 use crate::entries::{index, two_to, walk_directory};
+use crate::filling::fill_map;
 use crate::memory::Memory;
 use image_laws::ImageTable;
 use key_hash::Placer;
 use map_model::MapMachine;
 use node_words::Geometry;
 use std::alloc::{AllocError, Global};
+use std::collections::BTreeMap;
 
 /// What an audit says of words.
 #[derive(Debug, Drop)]
@@ -25,8 +27,8 @@ pub enum Audit {
     Bad { at: u64 },
 }
 
-/// The first tables, by index.
-fn first_tables(alloc: Global, geometry: &Geometry) -> Result<Vec<ImageTable>, AllocError>
+/// The first tables of the walk, by index: 2^first_depth of them.
+pub fn first_tables(alloc: Global, geometry: &Geometry) -> Result<Vec<ImageTable>, AllocError>
     ensures { IfOk result (λ tables. tables.items ≡ firsts geometry.now) }
 {
     let mut tables = Vec::new(alloc);
@@ -50,14 +52,17 @@ fn audit_directory<M: Memory, P: Placer>(
     auditor: Auditor,
 ) -> Result<Audit, AllocError>
     requires meets { AllMeet (Rule (setting_of (M.shape memory.now) (P.listed placer.now)) (M.words memory.now)) [] (flat_map (words_of (M.shape memory.now)) (tables (M.shape memory.now) (M.words memory.now))) }
-    requires kept { Kept (setting_of (M.shape memory.now) (P.listed placer.now)) (M.words memory.now) (M.place memory.now) (M.cells memory.now) (flat_map (words_of (M.shape memory.now)) (tables (M.shape memory.now) (M.words memory.now))) auditor.tables.items auditor.marked.items auditor.map }
+    requires kept { Kept (setting_of (M.shape memory.now) (P.listed placer.now)) (M.words memory.now) (M.place memory.now) (M.cells memory.now) (flat_map (words_of (M.shape memory.now)) (tables (M.shape memory.now) (M.words memory.now))) auditor.tables.items auditor.marked.items auditor.blocks }
     requires small { AllSmall auditor.tables.items }
     ensures { IfOk result (λ audit. IsAudit (setting_of (M.shape memory.now) (P.listed placer.now)) (M.words memory.now) audit) }
 {
     let index = index(alloc, &auditor.tables)?;
     match walk_directory(memory, &index) {
         Some(at) => Ok(Audit::Bad { at }),
-        None => Ok(Audit::Sound(auditor.map)),
+        None => {
+            let map = fill_map(alloc, memory, auditor.blocks)?;
+            Ok(Audit::Sound(map))
+        }
     }
 }
 
@@ -74,7 +79,7 @@ pub fn audit_words<M: Memory, P: Placer>(
     let mut auditor = Auditor {
         tables: first_tables(alloc, &geometry)?,
         marked: vec![in alloc; false; memory.cell_count()]?,
-        map: MapMachine::new(alloc),
+        blocks: BTreeMap::new(alloc),
     };
     let stop = auditor.walk_tables(memory, placer)?;
     match stop {

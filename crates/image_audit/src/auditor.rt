@@ -1,13 +1,13 @@
 //! The walk over the words of all tables, and what it keeps.
 ghost use Rattle.std.specs.Prelude.{◌≡◌, ◌≢◌, ℕ, ◌+◌, ◌*◌, ◌%◌, ◌<◌, ◌≤◌, ◌^◌, ◌↔◌, IsTrue, IfOk, OnOk, MatchOption, length, slice_index_or, [], ◌∷◌, ◌++◌, false};
-ghost use Rattle.std.specs.FinMap.{empty};
+ghost use Rattle.std.specs.BTreeMap.{IsEmpty};
 ghost use Rattle.std.specs.List.{flat_map};
 ghost use Rattle.key_hash.specs.Placing.{Pairs};
 ghost use Rattle.node_words.specs.Addresses.{table_words};
 ghost use Rattle.image_laws.specs.Walk.{TableWord, firsts, tables, words_of};
 ghost use Rattle.image_laws.specs.Sound.{AreTaken, Rule};
 ghost use Rattle.image_audit.specs.Breaks.{AllMeet, Breaks};
-ghost use Rattle.image_audit.specs.Kept.{AreFree, AllSmall, IsKeptPair, IsSmall, Judged, Kept, Marks, Walked, setting_of};
+ghost use Rattle.image_audit.specs.Kept.{AreFree, AllSmall, IsKeptBlock, IsSmall, Judged, Kept, Marks, Walked, setting_of};
 
 use crate::homes::is_at_home;
 use crate::memory::Memory;
@@ -15,9 +15,9 @@ use crate::reading::{birth_word_of, depth_of, is_plain_from, live_block, read_pa
 use crate::regions::{are_free, mark};
 use image_laws::ImageTable;
 use key_hash::Placer;
-use kv_block::{Key, Value};
-use map_model::{Call, MapMachine, Reply};
+use kv_block::Key;
 use std::alloc::AllocError;
+use std::collections::BTreeMap;
 
 /// Above each address that may be taken.
 const LIMIT: u64 = 1 << 24;
@@ -36,8 +36,8 @@ pub(crate) struct Auditor {
     pub tables: Vec<ImageTable>,
     /// The cells of the words of the tables so far, without the first tables.
     pub marked: Vec<bool>,
-    /// The pairs so far.
-    pub map: MapMachine,
+    /// The slot words of the pairs so far, by their keys.
+    pub blocks: BTreeMap<Key, u64>,
 }
 
 impl Auditor {
@@ -54,7 +54,7 @@ impl Auditor {
         requires taken { AreTaken (M.shape memory.now) (M.words memory.now) table.at words }
         ensures tables { OnOk result (self.new.tables.items ≡ self.old.tables.items ++ table ∷ []) }
         ensures marked { OnOk result (Marks (M.place memory.now) self.old.marked.items self.new.marked.items table.at words) }
-        ensures map { OnOk result (self.new.map ≡ self.old.map) }
+        ensures blocks { OnOk result (self.new.blocks ≡ self.old.blocks) }
     {
         self.tables.push(table)?;
         mark(memory, &mut self.marked, table.at, words);
@@ -83,7 +83,7 @@ impl Auditor {
         requires cells { length self.old.marked.items ≡ M.cells memory.now }
         ensures judged { IfOk result (λ fine. (listed : Pairs) → Judged (setting_of (M.shape memory.now) listed) (M.words memory.now)
             (M.place memory.now) (M.cells memory.now) (TableWord table.now (4 + level)) fine
-            self.old.tables.items self.old.marked.items self.old.map self.new.tables.items self.new.marked.items self.new.map) }
+            self.old.tables.items self.old.marked.items self.old.blocks self.new.tables.items self.new.marked.items self.new.blocks) }
         ensures cells { IfOk result (λ _. length self.new.marked.items ≡ M.cells memory.now) }
         ensures small { IfOk result (λ _. AllSmall self.old.tables.items → AllSmall self.new.tables.items) }
     {
@@ -129,7 +129,7 @@ impl Auditor {
         requires cells { length self.old.marked.items ≡ M.cells memory.now }
         ensures judged { IfOk result (λ fine. Judged (setting_of (M.shape memory.now) (P.listed placer.now)) (M.words memory.now)
             (M.place memory.now) (M.cells memory.now) (TableWord table.now offset) fine
-            self.old.tables.items self.old.marked.items self.old.map self.new.tables.items self.new.marked.items self.new.map) }
+            self.old.tables.items self.old.marked.items self.old.blocks self.new.tables.items self.new.marked.items self.new.blocks) }
         ensures cells { IfOk result (λ _. length self.new.marked.items ≡ M.cells memory.now) }
         ensures small { IfOk result (λ _. AllSmall self.old.tables.items → AllSmall self.new.tables.items) }
     {
@@ -158,7 +158,7 @@ impl Auditor {
         Ok(word == memory.word(table.at + 1))
     }
 
-    /// Whether a slot meets its rule; where it does, the pair of its block is kept.
+    /// Whether a slot meets its rule; where it does, its word is kept by the key of its block.
     fn check_slot<M: Memory, P: Placer>(
         &mut self,
         memory: &M,
@@ -172,7 +172,7 @@ impl Auditor {
         requires cells { length self.old.marked.items ≡ M.cells memory.now }
         ensures judged { IfOk result (λ fine. Judged (setting_of (M.shape memory.now) (P.listed placer.now)) (M.words memory.now)
             (M.place memory.now) (M.cells memory.now) (TableWord table.now (20 + place)) fine
-            self.old.tables.items self.old.marked.items self.old.map self.new.tables.items self.new.marked.items self.new.map) }
+            self.old.tables.items self.old.marked.items self.old.blocks self.new.tables.items self.new.marked.items self.new.blocks) }
         ensures cells { IfOk result (λ _. length self.new.marked.items ≡ M.cells memory.now) }
         ensures small { IfOk result (λ _. AllSmall self.old.tables.items → AllSmall self.new.tables.items) }
     {
@@ -186,25 +186,25 @@ impl Auditor {
         let Some(pair) = read_pair(memory, &slot) else {
             return Ok(false);
         };
-        let (key, value) = pair;
+        let key = pair.0;
         let depth = depth_of(memory.word(table.at + 1));
         let hash = placer.hash(&key);
         if !is_at_home(&memory.geometry(), hash, table, depth, place, slot.fp) {
             return Ok(false);
         }
-        let fresh = self.keep(key, value)?;
+        let fresh = self.keep(key, word)?;
         Ok(fresh)
     }
 
-    /// Keeps a pair whose key is not kept yet, and says whether it was not.
-    fn keep(&mut self, key: Key, value: Value) -> Result<bool, AllocError>
-        ensures fresh { IfOk result (λ fresh. IsKeptPair fresh self.old.map self.new.map key value) }
+    /// Keeps a slot word by its key, which is not kept yet, and says whether it was not.
+    fn keep(&mut self, key: Key, word: u64) -> Result<bool, AllocError>
+        ensures fresh { IfOk result (λ fresh. IsKeptBlock fresh self.old.blocks self.new.blocks key word) }
         ensures tables { self.new.tables.items ≡ self.old.tables.items }
         ensures marked { self.new.marked.items ≡ self.old.marked.items }
     {
-        match self.map.step(&Call::Insert { key, value })? {
-            Some(Reply::Inserted) => Ok(true),
-            _ => Ok(false),
+        match self.blocks.insert(key, word)? {
+            Some(_) => Ok(false),
+            None => Ok(true),
         }
     }
 
@@ -219,7 +219,7 @@ impl Auditor {
         requires cells { length self.old.marked.items ≡ M.cells memory.now }
         ensures walked { IfOk result (λ stop. Walked (setting_of (M.shape memory.now) (P.listed placer.now)) (M.words memory.now)
             (M.place memory.now) (M.cells memory.now) (words_of (M.shape memory.now) table.now) stop
-            self.old.tables.items self.old.marked.items self.old.map self.new.tables.items self.new.marked.items self.new.map) }
+            self.old.tables.items self.old.marked.items self.old.blocks self.new.tables.items self.new.marked.items self.new.blocks) }
         ensures cells { IfOk result (λ _. length self.new.marked.items ≡ M.cells memory.now) }
         ensures small { IfOk result (λ _. AllSmall self.old.tables.items → AllSmall self.new.tables.items) }
     {
@@ -244,11 +244,11 @@ impl Auditor {
         requires small { AllSmall self.old.tables.items }
         requires cells { length self.old.marked.items ≡ M.cells memory.now }
         requires unmarked { (j : ℕ) → slice_index_or self.old.marked.items j false ≡ false }
-        requires map { self.old.map ≡ empty }
+        requires blocks { IsEmpty self.old.blocks }
         ensures small { IfOk result (λ _. AllSmall self.new.tables.items) }
         ensures walked { IfOk result (λ stop. MatchOption stop
             (AllMeet (Rule (setting_of (M.shape memory.now) (P.listed placer.now)) (M.words memory.now)) [] (flat_map (words_of (M.shape memory.now)) (tables (M.shape memory.now) (M.words memory.now)))
-            × Kept (setting_of (M.shape memory.now) (P.listed placer.now)) (M.words memory.now) (M.place memory.now) (M.cells memory.now) (flat_map (words_of (M.shape memory.now)) (tables (M.shape memory.now) (M.words memory.now))) self.new.tables.items self.new.marked.items self.new.map)
+            × Kept (setting_of (M.shape memory.now) (P.listed placer.now)) (M.words memory.now) (M.place memory.now) (M.cells memory.now) (flat_map (words_of (M.shape memory.now)) (tables (M.shape memory.now) (M.words memory.now))) self.new.tables.items self.new.marked.items self.new.blocks)
             (λ at. Breaks (Rule (setting_of (M.shape memory.now) (P.listed placer.now)) (M.words memory.now)) [] (flat_map (words_of (M.shape memory.now)) (tables (M.shape memory.now) (M.words memory.now))) at)) }
     {
         let mut index = 0;

@@ -8,11 +8,13 @@ ghost use Rattle.race_io.specs.Transfer.{AppendsPart, TakesSome};
 ghost use Rattle.image_commands.specs.Audits.{IsAuditStatus, RefusesImage, TellsBad, TellsSound, TellsSoundInPart};
 ghost use Rattle.image_commands.specs.Texts.{TellsLine, audit_report, number_line};
 
-use crate::lines::{audit_text, put_number_line};
+use crate::lines::{line_of, put_number_line};
+use crate::pages::{ROOM, put_report};
 use image_audit::Audit;
 use map_model::MapMachine;
 use node_image::{ImageFault, audit_bytes};
 use race_io::{Sink, Source, TakeFault, put_all, take_all};
+use spelling::Page;
 use std::alloc::Global;
 
 /// The most bytes that are read: one more than an image may have.
@@ -28,7 +30,8 @@ fn refuse<K: Sink>(sink: &mut K) -> u8
     3
 }
 
-/// Writes the map of sound words. The status is 0, 5 where the sink fails, or 6 where there was no memory.
+/// Writes the map of sound words, by way of a page that is made before the first byte is written. The status is 0, 5 where the sink
+/// fails, or 6 where there was no memory.
 fn tell_sound<K: Sink>(alloc: Global, map: &MapMachine, sink: &mut K) -> u8
     ensures statuses { (result ≡ 0) ⊎ (result ≡ 5) ⊎ (result ≡ 6) }
     ensures whole { result ≡ 0 → Appends (K.taken sink.old) (K.taken sink.new) (audit_report (fin.entries map.now)) }
@@ -37,10 +40,13 @@ fn tell_sound<K: Sink>(alloc: Global, map: &MapMachine, sink: &mut K) -> u8
     ensures wanting { result ≡ 6 → sink.new ≡ sink.old }
     ensures counted { K.faults sink.old ≤ K.faults sink.new }
 {
-    let Ok(text) = audit_text(alloc, map) else {
+    let Ok(last) = line_of(alloc, b"keys ", map.pairs().len() as u64) else {
         return 6;
     };
-    match put_all(sink, text.as_slice()) {
+    let Ok(mut page) = Page::new(alloc, ROOM.max(last.len())) else {
+        return 6;
+    };
+    match put_report(&mut page, map, last.as_slice(), sink) {
         Ok(()) => 0,
         Err(_) => 5,
     }

@@ -1,11 +1,11 @@
 -- The roles of a table's words, by their offset.
-use Rattle.std.specs.Prelude.{◌≡◌, ◌≢◌, ℕ, ◌+◌, ◌%◌, ◌<◌, Some}
+use Rattle.std.specs.Prelude.{◌≡◌, ◌≢◌, ℕ, ◌+◌, ◌*◌, ◌/◌, ◌%◌, ◌<◌, Some}
 use Rattle.std.proofs.Common.{sym, ◌∙◌, ap, arith}
 use Rattle.node_words.specs.declared.geometry.Geometry.{Geometry}
 use Rattle.node_words.specs.Addresses.{child_at, slot_at}
-use Rattle.node_words.specs.Roles.{BirthWord, HeaderWord, LockWord, ChildWord, SlotWord, role_in, offset_role}
+use Rattle.node_words.specs.Roles.{BirthWord, HeaderWord, LockWord, ChildWord, BucketWord, SlotWord, role_in, offset_role}
 use Rattle.node_words.proofs.OpeningWords.{in_table}
-use Rattle.node_words.proofs.RoleLemmas.{birth_role, header_role, lock_role, child_role, slot_role}
+use Rattle.node_words.proofs.RoleLemmas.{birth_role, header_role, lock_role, child_role, slot_role, bucket_role, bucket_number}
 
 pub off_birth : (g : Geometry) (t : ℕ) → offset_role t 0 ≡ BirthWord t
 off_birth g t = sym (in_table g t 0) ∙ ap (λ a. role_in g a (Some t)) (plus t) ∙ birth_role g t
@@ -30,3 +30,16 @@ off_slot g t p h = sym (in_table g t (20 + p)) ∙ ap (λ a. role_in g a (Some t
   where
     plus : (t p : ℕ) → t + (20 + p) ≡ slot_at t p
     plus t p = omega arith
+
+-- the number of the bucket that begins at a place
+abbrev pub bucket_of : ℕ → ℕ
+bucket_of p = p / 24 * 2 + p % 24 / 16
+
+pub off_bucket : (g : Geometry) (t p : ℕ) → p % 8 ≡ 0 → p % 24 ≢ 8 → offset_role t (20 + p) ≡ BucketWord t (bucket_of p)
+off_bucket g t p h k = sym (in_table g t (20 + p)) ∙ ap (λ a. role_in g a (Some t)) (place t p (24 * (bucket_of p / 2) + 16 * (bucket_of p % 2)) (bucket_number p h k)) ∙ ap (λ a. role_in g a (Some t)) (same t (24 * (bucket_of p / 2)) (16 * (bucket_of p % 2))) ∙ bucket_role g t (bucket_of p)
+  where
+    place : (t p x : ℕ) → p ≡ x → t + (20 + p) ≡ t + (20 + x)
+    place t p x e = omega arith
+
+    same : (t x y : ℕ) → t + (20 + (x + y)) ≡ t + 20 + x + y
+    same t x y = omega arith

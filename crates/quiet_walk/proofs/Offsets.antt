@@ -7,27 +7,14 @@ use Rattle.slot_word.specs.declared.slots.Mark.TheVariants.{Live}
 use Rattle.slot_word.specs.declared.slots.Slot.{Slot}
 use Rattle.slot_word.specs.Slots.{slot_of}
 use Rattle.node_words.specs.declared.geometry.Geometry.{Geometry}
-use Rattle.node_words.specs.Roles.{Role, NextWord, DepthWord, DirectoryWord, BirthWord, HeaderWord, LockWord, ReservedWord, ChildWord, BucketWord, SlotWord, HeapWord, role_in, offset_role}
-use Rattle.node_words.proofs.OpeningWords.{in_table}
-use Rattle.node_words.proofs.RoleLemmas.{header_place, lock_place, slot_place, bucket_place, bucket_role, bucket_number}
+use Rattle.node_words.specs.Roles.{Role, NextWord, DepthWord, DirectoryWord, BirthWord, HeaderWord, LockWord, ReservedWord, ChildWord, BucketWord, SlotWord, HeapWord, offset_role}
+use Rattle.node_words.proofs.RoleLemmas.{header_place, lock_place, slot_place, bucket_place}
 use Rattle.verb_log.specs.Decoded.{Body, Empty, Full, content, content_of, header}
 use Rattle.race_laws.specs.Standing.{IsPlain}
 use Rattle.image_laws.specs.declared.table.ImageTable.{ImageTable}
 use Rattle.image_laws.specs.Walk.{Words, TableWord}
 use Rattle.image_laws.specs.Quiet.{QuietAs, QuietAt}
-use Rattle.image_laws.proofs.Offsets.{off_header, off_lock, off_slot}
-
-abbrev bucket_of : ℕ → ℕ
-bucket_of p = p / 24 * 2 + p % 24 / 16
-
-off_bucket : (g : Geometry) (t p : ℕ) → p % 8 ≡ 0 → p % 24 ≢ 8 → offset_role t (20 + p) ≡ BucketWord t (bucket_of p)
-off_bucket g t p h k = sym (in_table g t (20 + p)) ∙ ap (λ a. role_in g a (Some t)) (place t p (24 * (bucket_of p / 2) + 16 * (bucket_of p % 2)) (bucket_number p h k)) ∙ ap (λ a. role_in g a (Some t)) (same t (24 * (bucket_of p / 2)) (16 * (bucket_of p % 2))) ∙ bucket_role g t (bucket_of p)
-  where
-    place : (t p x : ℕ) → p ≡ x → t + (20 + p) ≡ t + (20 + x)
-    place t p x e = omega arith
-
-    same : (t x y : ℕ) → t + (20 + (x + y)) ≡ t + 20 + x + y
-    same t x y = omega arith
+use Rattle.image_laws.proofs.Offsets.{off_header, off_lock, off_slot, off_bucket, bucket_of}
 
 -- the content of a word that is not 0
 some_content : (word : ℕ) (slot : Slot) → word ≢ 0 → slot_of word ≡ Some slot → content word ≡ Full slot.mark (record { print = slot.fp; length = slot.len; at = slot.at })

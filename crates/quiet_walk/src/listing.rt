@@ -1,37 +1,11 @@
 //! The list of the tables of a walk.
-ghost use Rattle.std.specs.Prelude.{◌≡◌, ◌≤◌, ◌^◌, ◌++◌, IfOk, OnOk};
-ghost use Rattle.image_laws.specs.Walk.{children, firsts, tables};
+ghost use Rattle.std.specs.Prelude.{◌≡◌, ◌++◌, IfOk, OnOk};
+ghost use Rattle.image_laws.specs.Walk.{children, tables};
 ghost use Rattle.image_audit.specs.Kept.{AllSmall, IsSmall};
 
-use image_audit::Memory;
+use image_audit::{Memory, first_tables};
 use image_laws::ImageTable;
-use node_words::Geometry;
 use std::alloc::{AllocError, Global};
-
-/// 2^depth.
-fn two_to(depth: u32) -> u64
-    requires { depth ≤ 16 }
-    ensures { result ≡ 2 ^ depth }
-{
-    1 << depth
-}
-
-/// The first tables, by index.
-fn first_tables(alloc: Global, geometry: &Geometry) -> Result<Vec<ImageTable>, AllocError>
-    ensures { IfOk result (λ tables. tables.items ≡ firsts geometry.now) }
-{
-    let mut tables = Vec::new(alloc);
-    let count = two_to(geometry.first_depth);
-    for j in 0..count {
-        tables.push(ImageTable {
-            at: geometry.first_table(j),
-            depth: geometry.first_depth,
-            suffix: j as u32,
-            parent: 0,
-        })?;
-    }
-    Ok(tables)
-}
 
 /// Puts the children of a table behind the others, by level.
 fn add_children<M: Memory>(

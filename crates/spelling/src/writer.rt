@@ -123,7 +123,8 @@ impl Writer {
     }
 }
 
-fn hex_digit_of(half: u8) -> u8
+/// A hexadecimal digit.
+pub(crate) fn hex_digit_of(half: u8) -> u8
     requires { half < 16 }
     ensures { result ≡ hex_digit half }
 {

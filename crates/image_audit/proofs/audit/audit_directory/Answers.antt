@@ -19,5 +19,8 @@ walk_directory-requires g c = record {
 pub returns-in-Some : goal.returns-in-Some
 returns-in-Some g c = last_bad (setting_of (g.M.Memory.shape c.args.memory.now) (g.P.Placer.listed c.args.placer.now)) (g.M.Memory.words c.args.memory.now) c.in-Some.at c.requires.meets (c.in-Some.ensures (g.P.Placer.listed c.args.placer.now) _)
 
-pub returns-in-None : goal.returns-in-None
-returns-in-None g c = (audit_sound (setting_of (g.M.Memory.shape c.args.memory.now) (g.P.Placer.listed c.args.placer.now)) (g.M.Memory.words c.args.memory.now) c.requires.meets (λ before. c.in-None.ensures (g.P.Placer.listed c.args.placer.now) before) (g.met.M.Memory.nexts c.args.memory.now), kept_map (setting_of (g.M.Memory.shape c.args.memory.now) (g.P.Placer.listed c.args.placer.now)) _ _ _ _ _ _ c.requires.kept)
+pub fill_map-requires : goal.fill_map-requires
+fill_map-requires g c = kept_map (setting_of (g.M.Memory.shape c.args.memory.now) (g.P.Placer.listed c.args.placer.now)) _ _ _ _ _ _ c.requires.kept
+
+pub returns-in_ok-map-in-None : goal.returns-in_ok-map-in-None
+returns-in_ok-map-in-None g c = (audit_sound (setting_of (g.M.Memory.shape c.args.memory.now) (g.P.Placer.listed c.args.placer.now)) (g.M.Memory.words c.args.memory.now) c.requires.meets (λ before. c.in-None.ensures (g.P.Placer.listed c.args.placer.now) before) (g.met.M.Memory.nexts c.args.memory.now), c.in_ok-map-in-None.ensures)

@@ -37,7 +37,7 @@ pub returns-clause-judged : goal.returns-clause-judged
 returns-clause-judged g c = λ listed before k. (
   (λ e. added_judged _ _ _ _ before _ _ _ k c.args.table.now c.args.level c.requires.level c.is_wanted-wanted.result c.depth_of-depth.result c.word-child.result c.is_wanted-wanted.ensures
       (c.depth_of-depth.ensures ∙ ap (λ v. depth (header v)) c.word.ensures) (c.word-child.ensures ∙ ap (λ v. g.M.Memory.words c.args.memory.now (c.args.table.now.at + 4 + v)) c.from.ensures)
-      (g.met.M.Memory.apart c.args.memory.now) (g.met.M.Memory.low c.args.memory.now) _ _ _ c.if-child-eq0.false c.if-not-wanted.false c.table_words-words.result (c.table_words-words.ensures ∙ ap table_words c.geometry.ensures) (c.is_free.ensures.0 c.if-not-is_free.false) c.in_ok-add.ensures.tables c.in_ok-add.ensures.marked c.in_ok-add.ensures.map),
+      (g.met.M.Memory.apart c.args.memory.now) (g.met.M.Memory.low c.args.memory.now) _ _ _ c.if-child-eq0.false c.if-not-wanted.false c.table_words-words.result (c.table_words-words.ensures ∙ ap table_words c.geometry.ensures) (c.is_free.ensures.0 c.if-not-is_free.false) c.in_ok-add.ensures.tables c.in_ok-add.ensures.marked c.in_ok-add.ensures.blocks),
   λ e r. absurd (cc),
 )
 

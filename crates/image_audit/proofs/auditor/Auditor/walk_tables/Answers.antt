@@ -23,7 +23,7 @@ returns-clause-walked g c = let a = c.len.ensures in let b = c.loop-index-test.f
     let low : length c.loop-index.self.tables.items ≤ c.loop-index.index = search rules in through_end _ _ _ _ c.loop-index.index _ _ _ c.loop-index.invariant low
 
 pub loop-index-init : goal.loop-index-init
-loop-index-init g c = through_start _ _ _ _ _ _ _ c.requires.tables c.requires.cells c.requires.unmarked c.requires.map c.requires.small
+loop-index-init g c = through_start _ _ _ _ _ _ _ c.requires.tables c.requires.cells c.requires.unmarked c.requires.blocks c.requires.small
 
 pub returns-in-Some-clause-small : goal.returns-in-Some-clause-small
 returns-in-Some-clause-small g c = c.in_ok-stop.ensures.small c.loop-index.invariant.small
