@@ -48,7 +48,7 @@ long g (e ∷ past) =
     let own = changes_by g past e (kind g past e) in
     length-append (owners g past) (map (λ (c : Change). e.client) own) ∙ (λ i. long g past i + length-map own (λ (c : Change). e.client) i) ∙ sym (length-append (changes g past) own)
 
-owners_long : (s : Setting) (l : Entries) → length (owners_of s l) ≡ length (changes_of s l)
+pub owners_long : (s : Setting) (l : Entries) → length (owners_of s l) ≡ length (changes_of s l)
 owners_long s l = long s.geometry (reverse l)
 
 push_all : (P : ℕ → Type 0) (xs ys : List ℕ) → AllByRecursion P xs → AllByRecursion P ys → AllByRecursion P (xs ++ ys)
@@ -60,7 +60,7 @@ of_one P c [] h = tt
 of_one P c (x ∷ own) h = (h, of_one P c own h)
 
 -- .. who has a seat
-owners_known : (s : Setting) (n : ℕ) (l m : Entries) → AllByRecursion (λ c. c < n) (owners_of s l) → OfSeats n m → AllByRecursion (λ c. c < n) (owners_of s (l ++ m))
+pub owners_known : (s : Setting) (n : ℕ) (l m : Entries) → AllByRecursion (λ c. c < n) (owners_of s l) → OfSeats n m → AllByRecursion (λ c. c < n) (owners_of s (l ++ m))
 owners_known s n l [] h known = subst (λ x. AllByRecursion (λ c. c < n) (owners_of s x)) (sym (append-nil l)) h
 owners_known s n l (e ∷ m) h known =
     subst (λ x. AllByRecursion (λ c. c < n) (owners_of s x)) (append_assoc l (e ∷ []) m)
@@ -78,7 +78,7 @@ get_behind [] c own more p low less = get_one c own more p (omega arith)
 get_behind (x ∷ xs) c own more zero low less = absurd (omega arith)
 get_behind (x ∷ xs) c own more (suc p) low less = get_behind xs c own more p (omega arith) (omega arith)
 
-get_past : (xs : List ℕ) (p c : ℕ) → length xs ≤ p → slice_get xs p ≡ Some c → ⊥
+pub get_past : (xs : List ℕ) (p c : ℕ) → length xs ≤ p → slice_get xs p ≡ Some c → ⊥
 get_past [] zero c low is = cc
 get_past [] (suc p) c low is = cc
 get_past (x ∷ xs) zero c low is = omega arith
@@ -101,7 +101,7 @@ begins_one : (m log : Entries) (e : Entry) → Begins (m ++ e ∷ []) log → Be
 begins_one m log e b = begins-then m (m ++ e ∷ []) log (e ∷ [], refl) b
 
 -- who made none between two logs owns none between their changes
-made_none : (s : Setting) (c : ℕ) (l m log : Entries) → MadeNone s c l m → Begins m log → NoneOf (owners_of s log) c (length (changes_of s l)) (length (changes_of s m))
+pub made_none : (s : Setting) (c : ℕ) (l m log : Entries) → MadeNone s c l m → Begins m log → NoneOf (owners_of s log) c (length (changes_of s l)) (length (changes_of s m))
 made_none s c l m log none_yet b p low less is = omega arith
 made_none s c l m2 log (by_another {m = m} e h apart) b p low less is = elim (cases_lt p (length (changes_of s m))) [
   | inl below ↦ made_none s c l m log h (begins_one m log e b) p low below is
@@ -206,7 +206,7 @@ went home log r keeps ran =
     (made_none s c [] ran.begin.front log ran.none begun)
     (subst (Went (changes_of s log) (owners_of s log) c (length (changes_of s ran.begin.front))) (append-nil (told_by r.calls r.answers)) body)
 
-each_went : (home : Home) (log : Entries) (c : ℕ) (all : List Ran) → AreCounted c all → AllByRecursion (Keeps home.setting log) (map (λ (r : Ran). r.seat) all) → AllByRecursion (HasRun home) all
+pub each_went : (home : Home) (log : Entries) (c : ℕ) (all : List Ran) → AreCounted c all → AllByRecursion (Keeps home.setting log) (map (λ (r : Ran). r.seat) all) → AllByRecursion (HasRun home) all
     → EachWent (changes_of home.setting log) (owners_of home.setting log) c (all_told all)
 each_went home log c [] counted keeps ran = tt
 each_went home log c (r ∷ all) counted keeps ran =

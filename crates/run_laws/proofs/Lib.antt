@@ -1,4 +1,5 @@
 pub mod Fronts
 pub mod Living
-mod Looks
+pub mod Looks
 mod Headline
+mod Beside

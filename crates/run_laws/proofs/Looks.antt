@@ -5,8 +5,9 @@ use Rattle.std.proofs.lemmas.Bool.{cases_eq, cases_Bool}
 use Rattle.map_model.specs.declared.calls.Call.{Call}
 use Rattle.map_model.specs.Machine.{reply_of, map_at, change_of, is_change, is_quiet}
 use Rattle.verb_log.specs.declared.entry.Entry.{Entry}
-use Rattle.verbs.specs.Logs.{Entries, Begins, Others, Lengthened}
-use Rattle.verbs.proofs.Growth.{begins-then}
+use Rattle.verbs.specs.Logs as logs
+use Rattle.verbs.specs.Logs.{Entries, Begins, Others, Longer, Lengthened}
+use Rattle.verbs.proofs.Growth.{begins-then, longer-begins}
 use Rattle.race_laws.specs.Setting.{Setting}
 use Rattle.race_laws.specs.Legal.{MayFollow}
 use Rattle.log_facts.specs.Among.{changes_of}
@@ -77,7 +78,8 @@ module _ (s : Setting) (n own : ℕ) (log met : Entries) (known : OfSeats n log)
             ap (λ k. reply_of (map_at (changes_of s f0) k) call) (sym at) ∙ ap (λ l. reply_of (map_at l x.point) call) (sym same) ∙ x.answers;
       }
 
-at_end : {A : Type 0} (l : List A) (a b : A) (j : ℕ) → slice_get (l ++ a ∷ []) j ≡ Some b → (slice_get l j ≡ Some b) ⊎ ((j ≡ length l) × (a ≡ b))
+-- a place of a list with one more
+pub at_end : {A : Type 0} (l : List A) (a b : A) (j : ℕ) → slice_get (l ++ a ∷ []) j ≡ Some b → (slice_get l j ≡ Some b) ⊎ ((j ≡ length l) × (a ≡ b))
 at_end [] a b zero h = inr (refl, cc)
 at_end [] a b (suc j) h = absurd (cc)
 at_end (x ∷ l) a b zero h = inl h
@@ -141,3 +143,26 @@ last_looks s seats log begin last calls first kept n answers known is others own
     (last_by seats log begin calls first known
     (subst (λ (t : Setting). HasMet t (λ c. (c < seats) × (c ≢ begin.client)) log begin.front) (sym is) others)
     look last kept n answers (subst (λ (t : Setting). Lengthened (MayFollow t) begin.client last.front log) (sym is) own) lives)
+
+-- what was made none of up to a log and from it on was made none of at all
+none_then : (s : Setting) (c : ℕ) (f l m : Entries) → MadeNone s c f l → MadeNone s c l m → MadeNone s c f m
+none_then s c f l m h none_yet = h
+none_then s c f l m2 h (by_another {m = m} e g apart) = by_another e (none_then s c f l m h g) apart
+none_then s c f l m2 h (by_itself {m = m} e g quiet) = by_itself e (none_then s c f l m h g) quiet
+
+-- a client whose calls are all looks has made no change
+pub none_looked : (calls : List Call) (begin : Seated) (first : State) (f : Entries) → ((i : ℕ) (call : Call) → slice_get calls i ≡ Some call → change_of call ≡ None) → MadeNone begin.home.setting begin.client f begin.front
+    → (n : ℕ) (seat : Seated) (state : State) (answers : List Answer) → Lives calls begin first n seat state answers → MadeNone begin.home.setting begin.client f seat.front
+none_looked calls begin first f look none n seat state answers lives_none = none
+none_looked calls begin first f look none n2 seat2 state2 answers2 (lives_more {n = n} {seat = seat} {state = state} {answers = answers} call next kept a lives at called) =
+    let s = begin.home.setting in
+    let is = lives_seat calls begin first n seat state answers lives in
+    let replied = replied_as begin seat state call next.front a is.0 is.1 called.replied in
+    none_then s begin.client f seat.front next.front (none_looked calls begin first f look none n seat state answers lives)
+    (replied.left (looks_alone s begin.client state call seat.front next.front a replied (look n call at)))
+
+-- behind what has met all others no other has an entry
+pub still : (s : Setting) (n own : ℕ) (log met f m : Entries) → OfSeats n log → HasMet s (λ c. (c < n) × (c ≢ own)) log met → Begins met f → Longer (MayFollow s) own f m → Begins m log → m ≡ f
+still s n own log met f m known others begins logs.same end = refl
+still s n own log met f m2 known others begins (logs.more {m = m} e b rule apart) end =
+    absurd (apart (own_entry s n own log met known others m end.0 e (begins-then met f m begins (longer-begins (MayFollow s) own f m b)) (end.1 ∙ append_assoc m (e ∷ []) end.0)))

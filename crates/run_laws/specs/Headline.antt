@@ -1,11 +1,12 @@
 -- The records of a run on running words, from what its clients were answered and the log of the closed memory.
-use Rattle.std.specs.Prelude.{◌≡◌, ℕ, ◌+◌, List, [], ◌∷◌, ◌++◌, length, map, reverse}
+use Rattle.std.specs.Prelude.{◌≡◌, ℕ, ◌+◌, List, [], ◌∷◌, ◌++◌, length, map, reverse, slice_get, Some, ◌⊎◌}
 use Rattle.std.specs.List.{AllByRecursion}
 use Rattle.node_words.specs.declared.geometry.Geometry.{Geometry}
 use Rattle.kv_block.specs.declared.changes.Change.{Change}
 use Rattle.map_model.specs.declared.calls.Call.{Call}
 use Rattle.map_model.specs.declared.records.Record.{Record}
 use Rattle.map_model.specs.History as history
+use Rattle.map_model.specs.Machine.{change_of}
 use Rattle.verb_log.specs.Tables.{Past}
 use Rattle.verb_log.specs.Changes.{changes_by}
 use Rattle.verb_log.specs.Kinds.{kind}
@@ -76,3 +77,20 @@ Stand s log all =
 abbrev pub HeadlineForRun : Type 0
 HeadlineForRun = (home : Home) (front : Fronted) (all : List Ran)
     → IsClosed home (map (λ (r : Ran). r.seat) all) front → home.seats ≡ length all → AreCounted 0 all → AllByRecursion (HasRun home) all → Stand home.setting front.entries all
+
+-- of a memory with one seat more, whose client has run beside them and made no change; it has no records
+abbrev pub HeadlineBeside : Type 0
+HeadlineBeside = (home : Home) (front : Fronted) (all : List Ran) (last : Seated)
+    → IsClosed home (map (λ (r : Ran). r.seat) all ++ last ∷ []) front → home.seats ≡ length all + 1 → last.client ≡ length all → AreCounted 0 all → AllByRecursion (HasRun home) all
+    → MadeNone home.setting last.client [] last.front → Stand home.setting front.entries all
+
+-- a call of one of the clients makes this change
+abbrev pub IsAsked : List Ran → Change → Type 0
+IsAsked [] change = ⊥
+IsAsked (r ∷ all) change = ((i : ℕ) × (call : Call) × (slice_get r.calls i ≡ Some call) × (change_of call ≡ Some change)) ⊎ IsAsked all change
+
+-- and each change of its log is that of a call of theirs
+abbrev pub ChangesAreAsked : Type 0
+ChangesAreAsked = (home : Home) (front : Fronted) (all : List Ran) (last : Seated)
+    → IsClosed home (map (λ (r : Ran). r.seat) all ++ last ∷ []) front → home.seats ≡ length all + 1 → last.client ≡ length all → AreCounted 0 all → AllByRecursion (HasRun home) all
+    → MadeNone home.setting last.client [] last.front → AllByRecursion (IsAsked all) (changes_of home.setting front.entries)

@@ -2,7 +2,7 @@
 use Rattle.std.specs.Prelude.{◌≡◌, ℕ, zero, suc, ◌+◌, ◌<◌, List, [], ◌∷◌, ◌++◌, length, Option, Some, None, is_some, slice_get, slice_set, cond, nat_lt, refl}
 use Rattle.std.specs.List.{position, position_or_len}
 use Rattle.std.proofs.lemmas.Bool.{lt-ltb}
-use Rattle.std.proofs.Common.{sym, ◌∙◌, ap, arith}
+use Rattle.std.proofs.Common.{sym, ◌∙◌, ap, arith, append-nil}
 use Rattle.client_seat.specs.Seated.{Home, Seated, fresh_seat}
 use Rattle.running_play.specs.Dealt.{fresh_seats, taken_places, fresh_places}
 
@@ -104,3 +104,16 @@ all_dealt home clients n places dealt same h =
     let rest = h.all in
     let none : suc h.more ≡ 1 = omega arith in
     (h.dealt_is ∙ ap (fresh_seats home 0) same, h.left_is ∙ ap (λ (k : ℕ). taken_places n ++ fresh_places home n k) none ∙ ap (λ (k : ℕ). taken_places k ++ fresh_places home k 1) same)
+
+-- the one more
+pub last_taken : (home : Home) (n : ℕ) (seat : Seated) (ps next : List (Option Seated)) → ps ≡ taken_places n ++ fresh_places home n 1 → Some seat.client ≡ position is_some ps → slice_get ps seat.client ≡ Some (Some seat)
+    → next ≡ slice_set ps seat.client None → (seat ≡ fresh_seat home n) × (next ≡ taken_places (n + 1))
+last_taken home n seat ps next places least got set =
+    let t = taken home n 0 seat ps next places least got set in
+    (t.is, t.next_is ∙ append-nil (taken_places (suc n)) ∙ ap taken_places (sym (next_is n)))
+
+pub none_left : (home : Home) (n : ℕ) (ps : List (Option Seated)) → ps ≡ taken_places n ++ fresh_places home n 1 → None ≡ position is_some ps → ⊥
+none_left home n ps places e = bad (e ∙ some_left home n 0 ps places)
+  where
+    bad : None ≡ Some n → ⊥
+    bad e = cc

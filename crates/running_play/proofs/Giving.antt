@@ -1,5 +1,5 @@
 -- Seats that workers give back.
-use Rattle.std.specs.Prelude.{◌≡◌, ℕ, zero, suc, ◌+◌, ◌<◌, List, [], ◌∷◌, ◌++◌, length, take, slice_set, refl}
+use Rattle.std.specs.Prelude.{◌≡◌, ℕ, zero, suc, ◌+◌, ◌<◌, List, [], ◌∷◌, ◌++◌, length, take, drop, slice_set, refl}
 use Rattle.std.proofs.Common.{sym, ◌∙◌, ap, subst, arith}
 use Rattle.map_model.specs.declared.calls.Call.{Call}
 use Rattle.play_report.specs.declared.report.Line.{Line}
@@ -41,7 +41,7 @@ set_front {A = A} (p ∷ ps) rest (suc m) x low =
 -- in a call that was left a client has made no change
 left_none : (calls : List Call) (answered : ℕ) (last next : Seated) (kept : State) (more : List Line) (home : Home) (c : ℕ) → last.home ≡ home → last.client ≡ c → Tells calls answered last kept next more → MadeNone home.setting c last.front next.front
 left_none calls answered last next kept more home c here own all_told = none_yet
-left_none calls answered last next kept more home c here own (one_open call next2 at stopped) =
+left_none calls answered last next kept more home c here own (one_open call next2 at stopped longer) =
     subst (λ (h : Home). MadeNone h.setting c last.front next.front) here (subst (λ (n : ℕ). MadeNone last.home.setting n last.front next.front) own stopped.none)
 
 pub workers_have_run : WorkersHaveRun
@@ -62,3 +62,11 @@ workers_have_run home script seat next lines here front h =
       lives = done.lives;
       left = left_none calls done.answered done.last next done.kept done.more home next.client (is.0 ∙ here) (is.1 ∙ sym h.client) done.tells;
     }
+
+-- the last of the places
+pub set_end : {A : Type 0} (xs ps : List A) (x : A) → length ps ≡ length xs + 1 → slice_set (xs ++ drop (length xs) ps) (length xs) x ≡ xs ++ x ∷ []
+set_end [] [] x long = absurd (omega arith)
+set_end [] (p ∷ []) x long = refl
+set_end [] (p ∷ q ∷ ps) x long = absurd (omega arith)
+set_end (y ∷ xs) [] x long = absurd (omega arith)
+set_end (y ∷ xs) (p ∷ ps) x long = ap (λ l. y ∷ l) (set_end xs ps x (omega arith))

@@ -80,6 +80,11 @@ most_by None left verbs h n e = absurd (cc)
 most_by (Some m) None verbs h n e = absurd h
 most_by (Some m) (Some left) verbs h n e = let same = some_number m n e in omega arith
 
+-- a call that may be begun may do a verb
+some_verbs : (left : Option ℕ) (most : ℕ) → MatchOption left (most ≡ 2 ^ 40) (λ n. most ≡ n) → ((n : ℕ) → left ≡ Some n → 1 ≤ n) → 1 ≤ most
+some_verbs None most m some = omega arith
+some_verbs (Some n) most m some = let one = some n refl in omega arith
+
 -- a call that was left has used up the verbs of a client that stops
 used_up : (stop left : Option ℕ) (before verbs most : ℕ) → IsLeft stop left before → MatchOption left (most ≡ 2 ^ 40) (λ n. most ≡ n) → verbs ≡ most → verbs < 2 ^ 40 → stop ≡ Some (before + verbs)
 used_up None None before verbs most h m is few = absurd (omega arith)
@@ -139,9 +144,9 @@ module _ (calls : List Call) (stop : Option ℕ) (begin : Seated) (first : State
 
   -- a call was left
   pub done_open : (left : Option ℕ) (i : ℕ) (seat next : Seated) (state kept : State) (call : Call) (most verbs number : ℕ) (lines more : List Line) → state.tries ≤ 64 → Living calls stop left begin first i seat state lines → slice_get calls i ≡ Some call
-      → MatchOption left (most ≡ 2 ^ 40) (λ n. most ≡ n) → CameTo seat state call most next kept None verbs → number ≡ i + 1 → more ≡ lines ++ line_of begin.client number None ∷ []
+      → MatchOption left (most ≡ 2 ^ 40) (λ n. most ≡ n) → ((n : ℕ) → left ≡ Some n → 1 ≤ n) → CameTo seat state call most next kept None verbs → number ≡ i + 1 → more ≡ lines ++ line_of begin.client number None ∷ []
       → HasDone calls stop begin first next more
-  done_open left i seat next state kept call most verbs number lines more tries h at m came count told =
+  done_open left i seat next state kept call most verbs number lines more tries h at m some came count told =
       let x = came.0 in
       let few = x.few in
       let least = acts_few state call tries in
@@ -155,7 +160,7 @@ module _ (calls : List Call) (stop : Option ℕ) (begin : Seated) (first : State
         answers = h.answers;
         lives = h.lives;
         more = line_of seat.client (i + 1) None ∷ [];
-        tells = one_open call next at x;
+        tells = one_open call next at x (let long = longer_trace seat next x.trace x.told in let least = some_verbs left most m some in omega (arith, came.1, came.2));
         told =
             told ∙ ap (λ l. l ++ line_of begin.client number None ∷ []) h.told
             ∙ ap (λ (k : ℕ). lines_of begin.client 1 h.answers ++ line_of k number None ∷ []) (sym h.client) ∙ ap (λ (k : ℕ). lines_of begin.client 1 h.answers ++ line_of seat.client k None ∷ []) count;
@@ -197,7 +202,7 @@ done_client calls stop begin first next lines h = by next h.more h.tells
   where
     by : (next : Seated) (more : List Line) → Tells calls h.answered h.last h.kept next more → next.client ≡ begin.client
     by next more all_told = (lives_seat calls begin first h.answered h.last h.kept h.answers h.lives).1
-    by next more (one_open call next2 at stopped) = stopped.client ∙ (lives_seat calls begin first h.answered h.last h.kept h.answers h.lives).1
+    by next more (one_open call next2 at stopped longer) = stopped.client ∙ (lives_seat calls begin first h.answered h.last h.kept h.answers h.lives).1
 
 pub has_worked : (home : Home) (script : ScriptValue) (seat begin next last : Seated) (first : State) (lines : List Line) (number : ℕ) (calls : List Call) (stop : Option ℕ) → number ≡ seat.client → begin ≡ seat → last ≡ next → seat.home ≡ home → next.home ≡ begin.home
     → calls ≡ calls_at script.content number → stop ≡ stop_at script.content number → first ≡ fresh_state home.setting.geometry number script.tries

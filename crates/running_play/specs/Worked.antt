@@ -32,11 +32,11 @@ abbrev pub less_by : Option ℕ → ℕ → Option ℕ
 less_by None verbs = None
 less_by (Some left) verbs = Some (left - verbs)
 
--- where a client's answered calls have led to `last`, it has come to `next` and tells these lines more: none; or that of its next
--- call, which it has begun and left
+-- where a client's answered calls have led to `last`, it has come to `next` and tells these lines more: none, and it has done no verb
+-- since; or that of its next call, of which it has done a verb or more and which it has left
 pub data Tells (calls : List Call) (answered : ℕ) (last : Seated) (kept : State) : Seated → List Line → Type 0 where
   all_told : Tells calls answered last kept last []
-  one_open : (call : Call) (next : Seated) → slice_get calls answered ≡ Some call → Stopped last kept call next
+  one_open : (call : Call) (next : Seated) → slice_get calls answered ≡ Some call → Stopped last kept call next → length last.trace < length next.trace
       → Tells calls answered last kept next (line_of last.client (answered + 1) None ∷ [])
 
 -- A client has done its calls, from a seat that has done no verb: it has answered them all, or has done as many verbs as its stop

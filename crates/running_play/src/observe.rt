@@ -9,7 +9,7 @@ use client_seat::{Memory, TableNode};
 use key_hash::Placer;
 
 /// Meets a note of each worker's seat: what each has seen the node has seen then, and others alone lengthened its front.
-pub(crate) fn meet_all<'a, P: Placer>(
+pub fn meet_all<'a, P: Placer>(
     memory: &Memory<P>,
     node: &mut TableNode<'a, P>,
     all: &mut Vec<Worked>,

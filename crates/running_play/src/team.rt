@@ -15,7 +15,7 @@ use std::thread;
 use std::thread::Threads;
 
 /// A worker for each seat, all at once; each tells what it leaves, or that it found no memory.
-pub(crate) fn work_all<R: Threads + Sync, P: Placer, G: Gate>(
+pub fn work_all<R: Threads + Sync, P: Placer, G: Gate>(
     rt: &R,
     alloc: Global,
     memory: &Memory<P>,
@@ -39,7 +39,7 @@ pub(crate) fn work_all<R: Threads + Sync, P: Placer, G: Gate>(
 }
 
 /// What the workers left, in their order. It fails where one of them found no memory.
-pub(crate) fn gathered(
+pub fn gathered(
     alloc: Global,
     mut results: Vec<Result<Worked, AllocError>>,
 ) -> Result<Vec<Worked>, AllocError>

@@ -1,5 +1,5 @@
 //! A worker: one client, from its first call to its last, or to its stop.
-ghost use Rattle.std.specs.Prelude.{◌≡◌, ◌<◌, ◌≤◌, ◌+◌, ◌-◌, ◌^◌, ◌∷◌, ◌++◌, [], ℕ, IsTrue, length, Some, None, IfOk, MatchOption};
+ghost use Rattle.std.specs.Prelude.{◌≡◌, ◌<◌, ◌≤◌, ◌+◌, ◌-◌, ◌^◌, ◌∷◌, ◌++◌, [], ℕ, IsTrue, false, length, Some, None, IfOk, MatchOption};
 ghost use Rattle.verbs.specs.Logs.{MayStand};
 ghost use Rattle.race_laws.specs.Legal.{MayFollow};
 ghost use Rattle.world_texts.specs.Fits.{Fits};
@@ -74,7 +74,8 @@ fn most_of(left: Option<u64>) -> u64
 
 // Whether the client has done all the verbs that it may.
 fn is_spent(left: Option<u64>) -> bool
-    ensures { IsTrue result → left ≡ Some 0 }
+    ensures spent { IsTrue result → left ≡ Some 0 }
+    ensures some { (n : ℕ) → result ≡ false → left ≡ Some n → 1 ≤ n }
 {
     match left {
         Some(verbs) => verbs == 0,

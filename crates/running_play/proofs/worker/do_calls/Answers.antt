@@ -21,7 +21,7 @@ pub returns-then-is_spent-clause-done : goal.returns-then-is_spent-clause-done
 returns-then-is_spent-clause-done g c =
     let l = c.loop-i in
     done_stopped c.args.calls.now.items c.args.stop c.args.node.now c.args.state.now l.i l.node l.state l.lines.items
-    (subst (λ left. Living c.args.calls.now.items c.args.stop left c.args.node.now c.args.state.now l.i l.node l.state l.lines.items) (c.is_spent.ensures c.if-is_spent.true) l.invariant.living)
+    (subst (λ left. Living c.args.calls.now.items c.args.stop left c.args.node.now c.args.state.now l.i l.node l.state l.lines.items) (c.is_spent.ensures.spent c.if-is_spent.true) l.invariant.living)
 
 pub returns-then-is_none-clause-done : goal.returns-then-is_none-clause-done
 returns-then-is_none-clause-done g c =
@@ -33,6 +33,7 @@ returns-then-is_none-clause-done g c =
     c.line_of.ensures ∙ line_none c.args.client (l.i + 1) went.result.answer none ∙ ap (λ (n : ℕ). line_of n (l.i + 1) None) c.requires.client in
     done_open c.args.calls.now.items c.args.stop begin c.args.state.now l.left l.i l.node went.new.node l.state went.new.state c.get.result c.most_of.result went.result.verbs (l.i + 1) l.lines.items c.push.new.self.items
     l.invariant.fits.few l.invariant.living c.get.ensures c.most_of.ensures
+    (λ n e. c.is_spent.ensures.some n c.if-is_spent.false e)
     (came_none went.result.answer l.node l.state c.get.result c.most_of.result went.result.verbs went.new.node went.new.state none went.ensures.came)
     refl
     (c.in_ok-push.ensures.appended ∙ ap (λ (x : List Line). x ++ c.line_of.result ∷ []) c.in_ok-reserve.ensures.items ∙ ap (λ (x : Line). l.lines.items ++ x ∷ []) line)

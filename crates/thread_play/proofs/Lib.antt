@@ -1,0 +1,6 @@
+mod Pairs
+mod Naming
+mod Learning
+mod Reading
+mod Telling
+mod Ending
