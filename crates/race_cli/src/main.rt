@@ -1,15 +1,19 @@
 //! The program `race`: its words name a command, which reads standard input and writes standard output.
 //!
-//! Main makes the real source and sink, calls `race`, and ends with the status. At status 2 it prints the usage line on
-//! standard error, and at 4, 5 and 6 a line that says what failed. The words and the statuses are written in docs/SCRIPTS.md.
+//! Main makes the real source and sink and a gate that holds nobody, calls `race`, and ends with the status. At status 2 it prints the
+//! usage line on standard error, and at 4, 5 and 6 a line that says what failed. The words and the statuses are written in
+//! docs/SCRIPTS.md.
 #![tactic(auto)]
 
-use race_io::{ReaderSource, WriterSink};
+use race_io::{OpenGate, ReaderSource, Sink, Source, WriterSink};
 use race_play::race;
+use std::alloc::{AllocError, Global};
 use std::process::ExitCode;
+use std::thread::Threads;
 use std::{env, io};
 
-const USAGE: &str = "usage: race replay | race storm SEED CLIENTS CALLS | race image | race audit";
+const USAGE: &str =
+    "usage: race replay | race run | race storm SEED CLIENTS CALLS | race image | race audit";
 
 /// The words are no command.
 const NO_COMMAND: u8 = 2;
@@ -24,8 +28,10 @@ const OUTPUT_FAILED: u8 = 5;
 const NO_MEMORY: u8 = 6;
 
 fn main(rt: HostRuntime) -> ExitCode {
-    let status = match status_of(&rt) {
-        Ok(status) => status,
+    let mut source = ReaderSource::new(rt.stdin());
+    let mut sink = WriterSink::new(rt.stdout());
+    let status = match args_of(&rt) {
+        Ok(args) => status_of(&rt, rt.alloc(), &args, &mut source, &mut sink),
         // a word that is no text is no command
         Err(fault) if fault.kind() == io::ErrorKind::InvalidData => NO_COMMAND,
         Err(_) => NO_MEMORY,
@@ -47,14 +53,31 @@ fn told_at(status: u8) -> Option<&'static str> {
     }
 }
 
-/// The status of the command that the program's words name.
-fn status_of(rt: &HostRuntime) -> io::Result<u8> {
-    let args: Vec<String> = env::args(rt)?.collect(rt.alloc())?;
-    let mut words: Vec<&str> = Vec::new(rt.alloc());
+/// The program's words, and its name before them.
+fn args_of(rt: &HostRuntime) -> io::Result<Vec<String>> {
+    let args = env::args(rt)?.collect(rt.alloc())?;
+    Ok(args)
+}
+
+/// The words behind the program's name.
+fn words_of<'a>(alloc: Global, args: &'a [String]) -> Result<Vec<&'a str>, AllocError> {
+    let mut words: Vec<&str> = Vec::new(alloc);
     for word in args.iter().skip(1) {
         words.push(word.as_str())?;
     }
-    let mut source = ReaderSource::new(rt.stdin());
-    let mut sink = WriterSink::new(rt.stdout());
-    Ok(race(rt.alloc(), &words, &mut source, &mut sink).status)
+    Ok(words)
+}
+
+/// The status of the command that the words behind the program's name say.
+fn status_of<R: Threads + Sync, S: Source, K: Sink>(
+    rt: &R,
+    alloc: Global,
+    args: &[String],
+    source: &mut S,
+    sink: &mut K,
+) -> u8 {
+    match words_of(alloc, args) {
+        Ok(words) => race(rt, alloc, &words, source, sink, &OpenGate).status,
+        Err(_) => NO_MEMORY,
+    }
 }

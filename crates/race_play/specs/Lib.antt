@@ -1,6 +1,5 @@
 pub mod Commands
 pub mod Planned
-pub mod Nexts
 pub mod Plays
 pub mod Texts
 pub mod Outcomes

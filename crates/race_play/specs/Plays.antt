@@ -5,7 +5,6 @@ use Rattle.kv_block.specs.declared.changes.Change.{Change}
 use Rattle.map_model.specs.Contents.{Contents}
 use Rattle.map_model.specs.Machine.{map_at}
 use Rattle.map_model.specs.declared.plans.Item.{Item}
-use Rattle.race_laws.specs.Setting.{Setting}
 use Rattle.log_facts.specs.Among.{changes_of}
 use Rattle.client_seat.specs.Fronts.{Fronted}
 use Rattle.call_machine.specs.declared.call.CallMachine.{CallMachine}
@@ -15,12 +14,9 @@ use Rattle.verb_core.specs.Schedules.{Plays}
 use Rattle.script_value.specs.Content.{ScriptValue}
 use Rattle.play_report.specs.declared.report.Line.{Line}
 use Rattle.play_lines.specs.PlayLines.{lines_of}
-use Rattle.race_play.specs.Nexts.{nexts_after}
+use Rattle.play_ends.specs.Nexts.{nexts_after}
+use Rattle.play_ends.specs.Settings.{setting_of}
 use Rattle.race_play.specs.Planned.{plan_view, planned}
-
--- the sizes and the listed hashes of a script
-abbrev pub setting_of : ScriptValue → Setting
-setting_of script = record { geometry = script.geometry; listed = script.content.hashes }
 
 -- the items of all schedule lines
 abbrev pub items_of : ScriptValue → List Item

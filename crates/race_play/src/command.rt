@@ -9,6 +9,8 @@ use spelling::read_number;
 pub enum Command {
     /// Plays the script of standard input by its schedule.
     Replay,
+    /// Plays the clients of the script of standard input on threads.
+    Run,
     /// Makes the script of a storm, plays it and sums its play up: 1 to 16 clients, with 1 to 1,024 calls each.
     Storm { seed: u64, clients: u32, calls: u32 },
     /// Plays the script of standard input by its schedule and writes the image of the words that it leaves.
@@ -39,6 +41,9 @@ fn word_told(word: &str) -> Option<Command>
     if word == "replay" {
         return Some(Command::Replay);
     }
+    if word == "run" {
+        return Some(Command::Run);
+    }
     if word == "image" {
         return Some(Command::Image);
     }
@@ -62,8 +67,8 @@ fn storm_told(word: &str, seed: &str, clients: &str, calls: &str) -> Option<Comm
     )
 }
 
-/// The command that the words name: `replay`, `image` or `audit` alone, or `storm` with a seed below 2^64, 1 to 16 clients and 1 to 1,024 calls,
-/// decimal numbers without sign and without a zero in front. None exactly where the words are no such command.
+/// The command that the words name: `replay`, `run`, `image` or `audit` alone, or `storm` with a seed below 2^64, 1 to 16 clients and
+/// 1 to 1,024 calls, decimal numbers without sign and without a zero in front. None exactly where the words are no such command.
 pub fn command_of(words: &[&str]) -> Option<Command>
     ensures { result ≡ command_of (map (λ word. word.now) words.now) }
 {

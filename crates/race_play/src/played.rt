@@ -8,29 +8,16 @@ ghost use Rattle.verb_core.specs.Play.{Event, IsLegalPlay, Play, unfinished_of};
 ghost use Rattle.verb_core.specs.Schedules.{IsFor, Plays};
 ghost use Rattle.race_play.specs.Plays.{Begins, IsPlayed, IsTold, Replayed};
 
-use crate::nexts::nexts_after;
 use crate::planning::plans_of;
 use client_seat::Front;
 use key_hash::Listed;
-use map_model::{Items, MapMachine, Nexts};
+use map_model::Items;
+use play_ends::{Played, nexts_after};
 use play_lines::play_lines;
 use std::alloc::{AllocError, Global};
-use trace_script::{Lines, Script};
+use trace_script::Script;
 use verb_core::World;
 use verb_log::Log;
-
-/// What is told of a play.
-#[derive(Drop)]
-pub struct Played {
-    /// The answered calls and the unfinished ones, client by client.
-    pub lines: Lines,
-    /// The map after all changes.
-    pub map: MapMachine,
-    /// The next word of each node.
-    pub next: Nexts,
-    /// The log of the play.
-    pub front: Front,
-}
 
 // The clients of the script at the beginning of their plans.
 fn begin(alloc: Global, script: &Script) -> Result<World<Listed>, AllocError>

@@ -1,25 +1,15 @@
 //! What a command tells of the play of a script.
-ghost use Rattle.std.specs.Prelude.{◌≡◌, ◌≤◌, IfOk, Err};
-ghost use Rattle.script_reader.specs.Rules.{script_of};
-ghost use Rattle.script_reader.specs.declared.fault.Refusal.{Refusal};
+ghost use Rattle.std.specs.Prelude.{◌≤◌, IfOk};
 ghost use Rattle.race_play.specs.Texts.{LogsPlay, Reports, Sums};
-ghost use Rattle.race_play.specs.declared.texts.PlayFault.TheVariants.{OutOfMemory, Refused};
 
 use crate::played::{play_log, play_replay};
-use client_seat::Front;
 use key_hash::Listed;
 use node_words::Geometry;
+use script_commands::Account;
 use std::alloc::{AllocError, Global};
 use storm_script::{storm_script, summary_text};
-use trace_script::{Mode, Refusal, ScriptFault, Text, read_script, report_text};
+use trace_script::{Mode, Script, report_text};
 use verb_log::Log;
-
-/// A text, and the log of the play that it tells of.
-#[derive(Drop)]
-pub(crate) struct Account {
-    pub(crate) text: Text,
-    pub(crate) front: Front,
-}
 
 /// The log of the play of a script, with the script's sizes and listed hashes.
 #[derive(Drop)]
@@ -29,41 +19,15 @@ pub(crate) struct Logged {
     pub(crate) listed: Listed,
 }
 
-/// Why there is no report.
-#[derive(Clone, Copy, Debug, PartialEq, Eq)]
-pub(crate) enum PlayFault {
-    /// The bytes are no script.
-    Refused(Refusal),
-    /// Want of memory.
-    OutOfMemory,
-}
-
-impl From<AllocError> for PlayFault {
-    ghost from_gives = { λ _ e. e ≡ OutOfMemory };
-
-    fn from(_e: AllocError) -> PlayFault {
-        PlayFault::OutOfMemory
-    }
-}
-
-/// The report of the play of the script that bytes spell. It answers Refused exactly where they spell none, with the first line
-/// that breaks a rule.
-pub(crate) fn replay_account(alloc: Global, bytes: &[u8]) -> Result<Account, PlayFault>
-    ensures reports { IfOk result (λ account. Reports bytes.now account.text.items account.front) }
-    ensures refused { (refusal : Refusal) → result ≡ Err (Refused refusal) → script_of bytes.now ≡ Err (refusal.line, refusal.kind) }
+/// The report of the play of a script by its schedule.
+pub(crate) fn replay_account(alloc: Global, script: &Script) -> Result<Account, AllocError>
+    ensures { IfOk result (λ account. Reports script.now account.text.items account.front) }
 {
-    let script = match read_script(alloc, bytes) {
-        Ok(script) => script,
-        Err(ScriptFault::Refused { line, kind }) => {
-            return Err(PlayFault::Refused(Refusal { line, kind }));
-        }
-        Err(ScriptFault::OutOfMemory) => return Err(PlayFault::OutOfMemory),
-    };
-    let played = play_replay(alloc, &script)?;
+    let played = play_replay(alloc, script)?;
     let text = report_text(
         alloc,
         Mode::Replay,
-        &script,
+        script,
         &played.lines,
         &played.map,
         played.next,
@@ -74,19 +38,11 @@ pub(crate) fn replay_account(alloc: Global, bytes: &[u8]) -> Result<Account, Pla
     })
 }
 
-/// The log of the play of the script that bytes spell. It answers Refused as `replay_account` does.
-pub(crate) fn replay_log(alloc: Global, bytes: &[u8]) -> Result<Logged, PlayFault>
-    ensures logs { IfOk result (λ logged. LogsPlay bytes.now logged.log logged.geometry logged.listed) }
-    ensures refused { (refusal : Refusal) → result ≡ Err (Refused refusal) → script_of bytes.now ≡ Err (refusal.line, refusal.kind) }
+/// The log of the play of a script by its schedule.
+pub(crate) fn replay_log(alloc: Global, script: &Script) -> Result<Logged, AllocError>
+    ensures { IfOk result (λ logged. LogsPlay script.now logged.log logged.geometry logged.listed) }
 {
-    let script = match read_script(alloc, bytes) {
-        Ok(script) => script,
-        Err(ScriptFault::Refused { line, kind }) => {
-            return Err(PlayFault::Refused(Refusal { line, kind }));
-        }
-        Err(ScriptFault::OutOfMemory) => return Err(PlayFault::OutOfMemory),
-    };
-    let log = play_log(alloc, &script)?;
+    let log = play_log(alloc, script)?;
     let listed = script.placer(alloc)?;
     Ok(Logged {
         log,

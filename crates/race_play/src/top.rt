@@ -1,188 +1,24 @@
 //! The call that reads a script, plays it and writes its report.
-ghost use Rattle.std.specs.Prelude.{◌≡◌, ◌≢◌, ℕ, ◌≤◌, ◌↔◌, map, List, MatchOption, Option, None, Some, ◌⊎◌};
-ghost use Rattle.race_laws.specs.Legal.{IsLegal};
-ghost use Rattle.image_audit.specs.Kept.{setting_of};
+ghost use Rattle.std.specs.Prelude.{◌≡◌, ℕ, ◌≤◌, ◌↔◌, map, None, Some};
 ghost use Rattle.race_io.specs.Counts.{Rose};
-ghost use Rattle.race_io.specs.Transfer.{TakesSome, AppendsPart};
-ghost use Rattle.std.specs.Io.KnownBytes.{Appends};
+ghost use Rattle.race_io.specs.Transfer.{TakesSome};
 ghost use Rattle.race_play.specs.Commands.{command_of};
-ghost use Rattle.image_commands.specs.Audits.{IsAuditStatus, RefusesImage, TellsBad, TellsSound, TellsSoundInPart};
-ghost use Rattle.image_commands.specs.Images.{TellsNoImage, WritesImage, WritesImageInPart};
-ghost use Rattle.race_play.specs.Outcomes.{FindsBad, IsCommand, IsImageStatus, IsPlayStatus, IsStatus, Refuses, RefusesScript, Tells, TellsFront, TellsNone, TellsNoPicture, TellsPlay, Writes, WritesInPart, WritesPicture, WritesPictureInPart, WritesText, WritesTextInPart, most_read};
+ghost use Rattle.race_play.specs.Outcomes.{FindsBad, IsStatus, MayReplay, Refuses, TellsFront, TellsNone, Writes, WritesInPart, most_read};
 ghost use Rattle.race_play.specs.declared.command.Command.{Command};
-ghost use Rattle.race_play.specs.declared.command.Command.TheVariants.{Audit, Image, Replay, Storm};
+ghost use Rattle.race_play.specs.declared.command.Command.TheVariants.{Storm};
 
 use crate::command::{Command, command_of};
-use crate::texts::{Account, Logged, PlayFault, replay_account, replay_log, storm_account};
-use client_seat::Front;
-use image_commands::{audit, write_image};
-use race_io::{Sink, Source, TakeFault, put_all, take_all};
+use crate::doing::{image_source, replay_source, sum_up};
+use image_commands::audit;
+use race_io::{Gate, Sink, Source};
+use run_commands::run;
+use script_commands::Ended;
 use std::alloc::Global;
-use trace_script::Refusal;
-use trace_script::limits::MOST_BYTES;
+use std::thread::Threads;
 
-/// How a call of the program ended.
-#[derive(Drop)]
-pub struct Ended {
-    /// 0: the script was played and its whole report, summary or image written, or an image is sound and its map was written. 2: the
-    /// words are no command. 3: the bytes read are no script, or no image. 4: the source failed. 5: the sink failed. 6: want of
-    /// memory. 7: the script was played, and there is no image of what it leaves. 8: a word of an image is bad.
-    pub status: u8,
-    /// The log of the play. None exactly where nothing was played to its end: at the statuses 2, 3, 4 and 6, and of an audit.
-    pub front: Option<Front>,
-}
-
-/// The most bytes that are read: one more than a script may have.
-const MOST_READ: u64 = MOST_BYTES as u64 + 1;
-
-impl Ended {
-    // Nothing was played.
-    fn unplayed(status: u8) -> Ended
-        ensures status { result.status ≡ status }
-        ensures front { result.front ≡ None }
-    {
-        Ended {
-            status,
-            front: None,
-        }
-    }
-}
-
-// Writes the line of a refusal. The status is 3, also where the sink fails, or 6 where there was no memory.
-fn refuse<K: Sink>(alloc: Global, refusal: &Refusal, sink: &mut K) -> Ended
-    ensures statuses { (result.status ≡ 3) ⊎ (result.status ≡ 6) }
-    ensures told { result.status ≡ 3 → Tells (K.taken sink.old) (K.taken sink.new) (K.faults sink.old) (K.faults sink.new) (refusal.now.line, refusal.now.kind) }
-    ensures wanting { result.status ≡ 6 → sink.new ≡ sink.old }
-    ensures front { result.front ≡ None }
-    ensures counted { K.faults sink.old ≤ K.faults sink.new }
-{
-    let Ok(text) = refusal.text(alloc) else {
-        return Ended::unplayed(6);
-    };
-    let _ = put_all(sink, text.as_slice());
-    Ended::unplayed(3)
-}
-
-// Writes the text of a play. The status is 0, or 5 where the sink fails.
-fn write<K: Sink>(account: Account, sink: &mut K) -> Ended
-    ensures statuses { (result.status ≡ 0) ⊎ (result.status ≡ 5) }
-    ensures whole { result.status ≡ 0 → Appends (K.taken sink.old) (K.taken sink.new) account.text.items }
-    ensures part { result.status ≡ 5 → AppendsPart (K.taken sink.old) (K.taken sink.new) account.text.items }
-    ensures rose { result.status ≡ 5 → Rose (K.faults sink.old) (K.faults sink.new) }
-    ensures front { result.front ≡ Some account.front }
-    ensures counted { K.faults sink.old ≤ K.faults sink.new }
-{
-    let Account { text, front } = account;
-    let status = match put_all(sink, text.as_slice()) {
-        Ok(()) => 0,
-        Err(_) => 5,
-    };
-    Ended {
-        status,
-        front: Some(front),
-    }
-}
-
-// Reads the source to its end, plays the script and writes its report.
-fn replay_source<S: Source, K: Sink>(alloc: Global, source: &mut S, sink: &mut K) -> Ended
-    ensures statuses { IsPlayStatus result.status }
-    ensures front { TellsPlay result.status result.front }
-    ensures played { result.status ≡ 0 → WritesText Replay (S.left source.old) (S.left source.new) (K.taken sink.old) (K.taken sink.new) result.front }
-    ensures refused { result.status ≡ 3 → RefusesScript (S.left source.old) (S.left source.new) (K.taken sink.old) (K.taken sink.new) (K.faults sink.old) (K.faults sink.new) }
-    ensures failed { result.status ≡ 4 → Rose (S.faults source.old) (S.faults source.new) }
-    ensures failed_part { result.status ≡ 4 → TakesSome (S.left source.old) (S.left source.new) 4194305 }
-    ensures failed_unwritten { result.status ≡ 4 → sink.new ≡ sink.old }
-    ensures cut_off { result.status ≡ 5 → Rose (K.faults sink.old) (K.faults sink.new) }
-    ensures in_part { result.status ≡ 5 → WritesTextInPart Replay (S.left source.old) (S.left source.new) (K.taken sink.old) (K.taken sink.new) result.front }
-    ensures wanting { result.status ≡ 6 → sink.new ≡ sink.old }
-    ensures wanting_part { result.status ≡ 6 → TakesSome (S.left source.old) (S.left source.new) 4194305 }
-    ensures source_counted { S.faults source.old ≤ S.faults source.new }
-    ensures sink_counted { K.faults sink.old ≤ K.faults sink.new }
-{
-    let bytes = match take_all(alloc, source, MOST_READ) {
-        Ok(bytes) => bytes,
-        Err(TakeFault::Failed) => return Ended::unplayed(4),
-        Err(TakeFault::OutOfMemory) => return Ended::unplayed(6),
-    };
-    match replay_account(alloc, bytes.as_slice()) {
-        Ok(account) => write(account, sink),
-        Err(PlayFault::Refused(refusal)) => refuse(alloc, &refusal, sink),
-        Err(PlayFault::OutOfMemory) => Ended::unplayed(6),
-    }
-}
-
-// Plays the storm and writes its summary.
-fn sum_up<K: Sink>(alloc: Global, seed: u64, clients: u32, calls: u32, sink: &mut K) -> Ended
-    requires { IsCommand (Storm seed clients calls) }
-    ensures statuses { (result.status ≡ 0) ⊎ (result.status ≡ 5) ⊎ (result.status ≡ 6) }
-    ensures front { TellsPlay result.status result.front }
-    ensures played { (left_old left_new : Option (List ℕ)) → result.status ≡ 0 → WritesText (Storm seed clients calls) left_old left_new (K.taken sink.old) (K.taken sink.new) result.front }
-    ensures cut_off { result.status ≡ 5 → Rose (K.faults sink.old) (K.faults sink.new) }
-    ensures in_part { (left_old left_new : Option (List ℕ)) → result.status ≡ 5 → WritesTextInPart (Storm seed clients calls) left_old left_new (K.taken sink.old) (K.taken sink.new) result.front }
-    ensures wanting { result.status ≡ 6 → sink.new ≡ sink.old }
-    ensures counted { K.faults sink.old ≤ K.faults sink.new }
-{
-    match storm_account(alloc, seed, clients, calls) {
-        Ok(account) => write(account, sink),
-        Err(_) => Ended::unplayed(6),
-    }
-}
-
-// Writes the image of the words that a play leaves, or why there is none.
-fn picture<K: Sink>(alloc: Global, logged: Logged, sink: &mut K) -> Ended
-    requires geometry { logged.log.geometry ≡ logged.geometry }
-    requires legal { IsLegal (setting_of logged.geometry logged.listed) logged.log.entries }
-    ensures statuses { (result.status ≡ 0) ⊎ (result.status ≡ 5) ⊎ (result.status ≡ 6) ⊎ (result.status ≡ 7) }
-    ensures front { MatchOption result.front (result.status ≡ 6) (λ front. (front.geometry ≡ logged.log.geometry) × (front.entries ≡ logged.log.entries) × (front.ran ≡ None) × (result.status ≢ 6)) }
-    ensures whole { result.status ≡ 0 → WritesImage (setting_of logged.geometry logged.listed) logged.log.entries (K.taken sink.old) (K.taken sink.new) }
-    ensures part { result.status ≡ 5 → WritesImageInPart (setting_of logged.geometry logged.listed) logged.log.entries (K.taken sink.old) (K.taken sink.new) }
-    ensures rose { result.status ≡ 5 → Rose (K.faults sink.old) (K.faults sink.new) }
-    ensures none { result.status ≡ 7 → TellsNoImage (setting_of logged.geometry logged.listed) logged.log.entries (K.taken sink.old) (K.taken sink.new) (K.faults sink.old) (K.faults sink.new) }
-    ensures wanting { result.status ≡ 6 → sink.new ≡ sink.old }
-    ensures counted { K.faults sink.old ≤ K.faults sink.new }
-{
-    let status = write_image(alloc, &logged.log, &logged.geometry, &logged.listed, sink);
-    if status == 6 {
-        return Ended::unplayed(6);
-    }
-    Ended {
-        status,
-        front: Some(Front::of_log(logged.log)),
-    }
-}
-
-// Reads the source to its end, plays the script and writes the image of the words that it leaves.
-fn image_source<S: Source, K: Sink>(alloc: Global, source: &mut S, sink: &mut K) -> Ended
-    ensures statuses { IsImageStatus result.status }
-    ensures front { TellsPlay result.status result.front }
-    ensures played { result.status ≡ 0 → WritesPicture (S.left source.old) (S.left source.new) (K.taken sink.old) (K.taken sink.new) result.front }
-    ensures refused { result.status ≡ 3 → RefusesScript (S.left source.old) (S.left source.new) (K.taken sink.old) (K.taken sink.new) (K.faults sink.old) (K.faults sink.new) }
-    ensures failed { result.status ≡ 4 → Rose (S.faults source.old) (S.faults source.new) }
-    ensures failed_part { result.status ≡ 4 → TakesSome (S.left source.old) (S.left source.new) 4194305 }
-    ensures failed_unwritten { result.status ≡ 4 → sink.new ≡ sink.old }
-    ensures cut_off { result.status ≡ 5 → Rose (K.faults sink.old) (K.faults sink.new) }
-    ensures in_part { result.status ≡ 5 → WritesPictureInPart (S.left source.old) (S.left source.new) (K.taken sink.old) (K.taken sink.new) result.front }
-    ensures none { result.status ≡ 7 → TellsNoPicture (S.left source.old) (S.left source.new) (K.taken sink.old) (K.taken sink.new) (K.faults sink.old) (K.faults sink.new) result.front }
-    ensures wanting { result.status ≡ 6 → sink.new ≡ sink.old }
-    ensures wanting_part { result.status ≡ 6 → TakesSome (S.left source.old) (S.left source.new) 4194305 }
-    ensures source_counted { S.faults source.old ≤ S.faults source.new }
-    ensures sink_counted { K.faults sink.old ≤ K.faults sink.new }
-{
-    let bytes = match take_all(alloc, source, MOST_READ) {
-        Ok(bytes) => bytes,
-        Err(TakeFault::Failed) => return Ended::unplayed(4),
-        Err(TakeFault::OutOfMemory) => return Ended::unplayed(6),
-    };
-    match replay_log(alloc, bytes.as_slice()) {
-        Ok(logged) => picture(alloc, logged, sink),
-        Err(PlayFault::Refused(refusal)) => refuse(alloc, &refusal, sink),
-        Err(PlayFault::OutOfMemory) => Ended::unplayed(6),
-    }
-}
-
-/// Does a command: reads the source to its end where the command reads a script, plays the script by its schedule and writes the
-/// report, for a storm the summary, or the image of the words that it leaves; or audits an image. Every call returns, and nothing is written before the whole text is made. The numbers of a
-/// storm are within their limits.
+/// Does a command other than `run`: reads the source to its end where the command reads a script, plays the script by its schedule
+/// and writes the report, for a storm the summary, or the image of the words that it leaves; or audits an image. It waits for
+/// nobody, every call returns, and nothing is written before the whole text is made. The numbers of a storm are within their limits.
 ///
 /// The status is 7 exactly where the command is `image`, the script was played and there is no image, and 8 exactly where the command
 /// is `audit`, no read failed and a word of the image is bad: then a line that says so is written, or a part from its front where the
@@ -195,7 +31,7 @@ pub fn replay<S: Source, K: Sink>(
     source: &mut S,
     sink: &mut K,
 ) -> Ended
-    requires { IsCommand command.now }
+    requires { MayReplay command.now }
     ensures statuses { IsStatus command.now result.status }
 
     // The log is told exactly where a script was played.
@@ -232,6 +68,7 @@ pub fn replay<S: Source, K: Sink>(
 {
     match *command {
         Command::Replay => replay_source(alloc, source, sink),
+        Command::Run => unreachable!(),
         Command::Storm {
             seed,
             clients,
@@ -242,13 +79,20 @@ pub fn replay<S: Source, K: Sink>(
     }
 }
 
-/// Does the command that the words name, as `replay` does it. The status is 2 exactly where they name none, and then nothing is
-/// read or written.
-pub fn race<S: Source, K: Sink>(
+/// Does the command that the words name: `run` plays the script of the source on threads, a worker for each client, and writes its
+/// report, each other one is done as `replay` does it. The gate holds the workers of `run`, which wait for nobody else. The status is
+/// 2 exactly where the words name no command, and then nothing is read or written.
+///
+/// At 0 and 5 of `run` the log that is told is kept by a badge of the memory on which the clients ran, with the trace of each client's
+/// verbs. The lines are those of the calls that these traces did, with the replies and the blocks that the traces give. The replies
+/// stand in a legal history over the changes of the log, and the map is that of all changes.
+pub fn race<R: Threads + Sync, S: Source, K: Sink, G: Gate>(
+    rt: &R,
     alloc: Global,
     words: &[&str],
     source: &mut S,
     sink: &mut K,
+    gate: &G,
 ) -> Ended
     ensures statuses { (command : Command) → command_of (map (λ word. word.now) words.now) ≡ Some command → IsStatus command result.status }
     ensures command { (result.status ≡ 2) ↔ (command_of (map (λ word. word.now) words.now) ≡ None) }
@@ -296,6 +140,7 @@ pub fn race<S: Source, K: Sink>(
     ensures sink_counted { K.faults sink.old ≤ K.faults sink.new }
 {
     match command_of(words) {
+        Some(Command::Run) => run(rt, alloc, source, sink, gate),
         Some(command) => replay(alloc, &command, source, sink),
         None => Ended::unplayed(2),
     }

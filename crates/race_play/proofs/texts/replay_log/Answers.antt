@@ -1,11 +1,7 @@
 use Rattle.race_play.proofs.texts.replay_log.Goals as goal
 
-pub returns-clause-logs : goal.returns-clause-logs
-returns-clause-logs c = record {
-  script = c.in-Ok.script;
-  is = c.in-Ok.ensures.found.0;
-  spelled = c.in-Ok.ensures.found.1;
-  read = c.in-Ok.ensures.exact;
+pub returns : goal.returns
+returns c = record {
   ended = c.in_ok-log.ensures.0;
   played = c.in_ok-log.ensures.1;
   same_geometry = c.in_ok-log.ensures.2;
