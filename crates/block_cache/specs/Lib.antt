@@ -1,0 +1,5 @@
+pub mod Recent
+pub mod Cache
+pub mod Keeps
+pub mod Saved
+pub mod Still
