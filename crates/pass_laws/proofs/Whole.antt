@@ -113,7 +113,7 @@ module _ (s : Setting) (key : List ℕ) (z y : Past) (p : Passed) where
   so_told (Sweep own n) walk left0 same how left e lost free some so = absurd same
 
 -- the header with which the pass opened is told where its table is the last one
-opened_told : (o : Opened) (t : ℕ) (h : Head) → opened_at o t ≡ Some h → (o.table ≡ t) × (o.head ≡ h)
+pub opened_told : (o : Opened) (t : ℕ) (h : Head) → opened_at o t ≡ Some h → (o.table ≡ t) × (o.head ≡ h)
 opened_told o t h e = by (o.table == t) refl e
   where
     equal : (x y : ℕ) → (x == y) ≡ true → x ≡ y

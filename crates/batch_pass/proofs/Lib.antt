@@ -1,0 +1,6 @@
+mod Counted
+mod Levels
+mod Onward
+mod Opens
+mod Places
+mod Rows

@@ -1,0 +1,3 @@
+pub mod SafePosts
+pub mod HasLooked
+pub mod Law
