@@ -66,6 +66,18 @@ impl TakeOp {
         }
     }
 
+    /// .. by this client, of this block and from this area from now on, in the same memory.
+    pub fn refresh(&mut self, geometry: Geometry, client: u32, block: Block, area: Area)
+        ensures taking { self.new.taking ≡ record { geometry = geometry; client = client; block = block } }
+        ensures area { self.new.progress.area ≡ area }
+    {
+        self.taking.geometry = geometry;
+        self.taking.client = client;
+        self.taking.block = block;
+        self.progress.area = area;
+        self.at = At::Spent;
+    }
+
     /// Takes words for the block again, from the area as it was left, while `left` swaps may be lost.
     pub fn restart(&mut self, left: u32)
         ensures rest { take_rest self.new ≡ take_block self.old.taking self.old.progress.area left }

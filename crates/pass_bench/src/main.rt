@@ -156,13 +156,13 @@ fn run(node: &mut PlainNode, pass: &mut Pass) -> u64
 }
 
 // One look for each key.
-fn pass_round(node: &mut PlainNode, pass: &mut Pass, keys: &[Key]) -> u64
+fn pass_round(node: &mut PlainNode, geometry: Geometry, pass: &mut Pass, keys: &[Key]) -> u64
     requires { node.old.log.geometry.words ≡ 4_096 }
     ensures { node.new.log.geometry ≡ node.old.log.geometry }
 {
     let mut verbs = 0u64;
     for key in keys {
-        pass.begin(Some(TABLE), key, Mixed.hash(key), PassMode::Look);
+        pass.begin(geometry, Some(TABLE), key, Mixed.hash(key), PassMode::Look);
         verbs = verbs.wrapping_add(run(node, pass));
     }
     verbs
@@ -318,7 +318,7 @@ fn work(alloc: Global, word: &str) -> Result<u64, AllocError> {
     match word {
         "pass" => {
             let mut pass = Pass::start(geometry, None, first, 0, PassMode::Look);
-            Ok(passes(&mut node, &mut pass, &keys))
+            Ok(passes(&mut node, geometry, &mut pass, &keys))
         }
         "node" => {
             let mut block = vec![in alloc; 0u64; 137]?;
@@ -343,12 +343,12 @@ fn words_of(alloc: Global, node: &mut PlainNode) -> Result<Vec<u64>, AllocError>
 }
 
 // All looks by passes.
-fn passes(node: &mut PlainNode, pass: &mut Pass, keys: &[Key]) -> u64
+fn passes(node: &mut PlainNode, geometry: Geometry, pass: &mut Pass, keys: &[Key]) -> u64
     requires { node.old.log.geometry.words ≡ 4_096 }
 {
     let mut verbs = 0u64;
     for _ in 0..ROUNDS {
-        verbs = verbs.wrapping_add(pass_round(node, pass, keys));
+        verbs = verbs.wrapping_add(pass_round(node, geometry, pass, keys));
     }
     verbs
 }

@@ -66,12 +66,19 @@ impl Pass {
     }
 
     /// A pass for another key begins in place of this one, in the same memory.
-    pub fn begin(&mut self, entry: Option<u64>, key: &Key, hash: u64, mode: PassMode)
-        ensures rest { pass_rest self.new ≡ pass (record { geometry = self.old.task.job.geometry; key = key.now; hash = hash; mode = mode }) entry }
-        ensures job { self.new.task.job ≡ record { geometry = self.old.task.job.geometry; key = key.now; hash = hash; mode = mode } }
+    pub fn begin(
+        &mut self,
+        geometry: Geometry,
+        entry: Option<u64>,
+        key: &Key,
+        hash: u64,
+        mode: PassMode,
+    )
+        ensures rest { pass_rest self.new ≡ pass (record { geometry = geometry; key = key.now; hash = hash; mode = mode }) entry }
+        ensures job { self.new.task.job ≡ record { geometry = geometry; key = key.now; hash = hash; mode = mode } }
         ensures waits { IsSome (next_act (pass_rest self.new)) }
     {
-        self.task.seek(key, hash, mode);
+        self.task.seek(geometry, key, hash, mode);
         match entry {
             Some(table) => {
                 self.scan.next = address_of(table);

@@ -7,6 +7,7 @@ ghost use Rattle.pass_text.specs.Words.{count};
 
 use bucket_group::{Places, fingerprint, places};
 use kv_block::Key;
+use node_words::Geometry;
 use pass_text::{Job, PassMode};
 use slot_word::Slot;
 
@@ -51,10 +52,11 @@ impl Task {
     }
 
     /// Another key is looked for from now on, in the same memory.
-    pub fn seek(&mut self, key: &Key, hash: u64, mode: PassMode)
-        ensures { self.new.job ≡ record { geometry = self.old.job.geometry; key = key.now; hash = hash; mode = mode } }
+    pub fn seek(&mut self, geometry: Geometry, key: &Key, hash: u64, mode: PassMode)
+        ensures { self.new.job ≡ record { geometry = geometry; key = key.now; hash = hash; mode = mode } }
     {
-        let places = places(&self.job.geometry, hash);
+        let places = places(&geometry, hash);
+        self.job.geometry = geometry;
         self.job.key = *key;
         self.job.hash = hash;
         self.job.mode = mode;

@@ -1,0 +1,2 @@
+pub mod ParentWords
+pub mod Looking
