@@ -3,7 +3,7 @@ use Rattle.std.specs.Prelude.{◌≡◌, Some, refl}
 use Rattle.std.proofs.Common.{sym, ◌∙◌, ap}
 use Rattle.verbs.specs.Programs.{outcome_of}
 use Rattle.op_delete.specs.declared.end.DeleteEnd.{DeleteEnd}
-use Rattle.op_delete.specs.declared.work.Work.{Work}
+use Rattle.work_area.specs.declared.work.Work.{Work}
 use Rattle.op_delete.specs.declared.at.At.{At}
 use Rattle.op_delete.specs.declared.at.At.TheVariants.{Looking, Settle, Remove, Deleted, Missing, Again}
 use Rattle.op_delete.specs.Rest.{at_rest}
@@ -12,9 +12,9 @@ use Rattle.op_delete.proofs.Looking.{delete-outcome}
 
 pub record Told (w : Work) (e : DeleteEnd) : Type 0 where
   pub table : e.table ≡ w.pass.scan.table
-  pub lost : e.lost ≡ w.lost
+  pub lost : e.lost ≡ w.removal.lost
 
-same : (w : Work) (a b : DeleteEnd) → Some a ≡ Some b → a.table ≡ w.pass.scan.table → a.lost ≡ w.lost → Told w b
+same : (w : Work) (a b : DeleteEnd) → Some a ≡ Some b → a.table ≡ w.pass.scan.table → a.lost ≡ w.removal.lost → Told w b
 same w a b e t l = record { table = ap (λ (x : DeleteEnd). x.table) (sym (given a b e)) ∙ t; lost = ap (λ (x : DeleteEnd). x.lost) (sym (given a b e)) ∙ l }
   where
     given : (a b : DeleteEnd) → Some a ≡ Some b → a ≡ b

@@ -1,5 +1,5 @@
 -- The look inside a delete, and how it starts again.
-use Rattle.std.specs.Prelude.{◌≡◌, ◌≢◌, ℕ, suc, ◌+◌, ◌-◌, true, false, Some, None, IsSome, refl}
+use Rattle.std.specs.Prelude.{◌≡◌, ◌≢◌, ℕ, suc, ◌+◌, ◌-◌, true, false, Option, Some, None, IsSome, refl}
 use Rattle.std.proofs.Common.{sym, ap, subst, ◌∙◌, arith}
 use Rattle.slot_word.specs.Slots.{slot_of}
 use Rattle.verbs.specs.Programs.{Prog, next_act, next_verb, block_of, asked, after, outcome_of, bind}
@@ -18,10 +18,10 @@ use Rattle.pass_text.specs.Words.{candidate_at}
 use Rattle.call_laws.specs.Settling.{settle_first}
 use Rattle.op_delete.specs.declared.end.DeleteEnd.{DeleteEnd}
 use Rattle.op_delete.specs.declared.end.DeleteOutcome.TheVariants.{Again, Missing}
-use Rattle.op_delete.specs.declared.work.Work.{Work}
+use Rattle.work_area.specs.declared.work.Work.{Work}
 use Rattle.op_delete.specs.declared.at.At.{At}
 use Rattle.op_delete.specs.declared.at.At.TheVariants.{Looking}
-use Rattle.op_delete.specs.Text.{again, after_look, remove_word, ended}
+use Rattle.op_delete.specs.Text.{again, after_look, remove_word, ended, delete}
 use Rattle.op_delete.specs.Rest.{more, at_rest}
 use Rattle.op_delete.specs.AtFits.{AtFits}
 
@@ -87,19 +87,27 @@ module _ (w : Work) (at : At) (e : at ≡ Looking) (h : AtFits w at) where
   waits = (subst (AtFits w) e h).0
 
   pub delete-next : next_verb (pass_rest w.pass) ≡ next_verb (at_rest w at)
-  delete-next = sym (next_verb-bind (pass_rest w.pass) (after_look w.lost (more w)) waits) ∙ ap (λ a. next_verb (at_rest w a)) (sym e)
+  delete-next = sym (next_verb-bind (pass_rest w.pass) (after_look w.removal.lost (more w)) waits) ∙ ap (λ a. next_verb (at_rest w a)) (sym e)
 
   pub delete-block : block_of (pass_rest w.pass) ≡ block_of (at_rest w at)
-  delete-block = sym (block_of-bind (pass_rest w.pass) (after_look w.lost (more w)) waits) ∙ ap (λ a. block_of (at_rest w a)) (sym e)
+  delete-block = sym (block_of-bind (pass_rest w.pass) (after_look w.removal.lost (more w)) waits) ∙ ap (λ a. block_of (at_rest w a)) (sym e)
 
   pub delete-asks : asked (pass_rest w.pass) ≡ asked (at_rest w at)
-  delete-asks = sym (asked-bind (pass_rest w.pass) (after_look w.lost (more w)) waits) ∙ ap (λ a. asked (at_rest w a)) (sym e)
+  delete-asks = sym (asked-bind (pass_rest w.pass) (after_look w.removal.lost (more w)) waits) ∙ ap (λ a. asked (at_rest w a)) (sym e)
 
   pub delete-outcome : None ≡ outcome_of (at_rest w at)
-  delete-outcome = sym (outcome-bind (pass_rest w.pass) (after_look w.lost (more w)) waits) ∙ ap (λ a. outcome_of (at_rest w a)) (sym e)
+  delete-outcome = sym (outcome-bind (pass_rest w.pass) (after_look w.removal.lost (more w)) waits) ∙ ap (λ a. outcome_of (at_rest w a)) (sym e)
 
-  pub delete-act : (answer : ℕ) (q : Pass) → pass_rest q ≡ after (pass_rest w.pass) answer → bind (pass_rest q) (after_look w.lost (more w)) ≡ after (at_rest w at) answer
+  pub delete-act : (answer : ℕ) (q : Pass) → pass_rest q ≡ after (pass_rest w.pass) answer → bind (pass_rest q) (after_look w.removal.lost (more w)) ≡ after (at_rest w at) answer
   delete-act answer q g =
-      ap (λ x. bind x (after_look w.lost (more w))) g ∙ sym (after-bind (pass_rest w.pass) (after_look w.lost (more w)) answer waits) ∙ ap (λ a. after (at_rest w a) answer) (sym e)
+      ap (λ x. bind x (after_look w.removal.lost (more w))) g ∙ sym (after-bind (pass_rest w.pass) (after_look w.removal.lost (more w)) answer waits) ∙ ap (λ a. after (at_rest w a) answer) (sym e)
 
 pub ruleset deletes = (delete-next, delete-block, delete-asks, delete-outcome, delete-act)
+
+-- what a look that was started for it begins
+pub begins_delete : (j : Job) (tries : ℕ) (start : Option ℕ) (w : Work) → pass_rest w.pass ≡ pass j start → w.pass.task.job ≡ j → w.removal.lost ≡ 0 → w.removal.left ≡ tries
+    → at_rest w Looking ≡ delete j tries start
+begins_delete j tries start w e h z l =
+    (λ i. bind (e i) (after_look (z i) (again (h i) (l i - 1) (z i + 1))))
+
+pub ruleset begins = (begins_delete)

@@ -45,8 +45,6 @@ use Rattle.pass_text.specs.declared.passed.PassEnd.{PassEnd}
 use Rattle.pass_text.specs.declared.passed.PassEnd.TheVariants.{Held, Clear, Gone, Spent}
 use Rattle.pass_text.specs.Pass.{pass}
 use Rattle.pass_text.specs.Bound.{most_verbs}
-use Rattle.scan_pass.specs.declared.pass.Pass.{Pass}
-use Rattle.scan_pass.specs.Rest.{pass_rest}
 use Rattle.pass_laws.specs.HasPassed.{HasPassed, HeldAt, EndsSo}
 use Rattle.pass_laws.specs.Law.{MayBegin, IsJobOf}
 use Rattle.call_laws.specs.Judged.{SafeOnce, PlacedNone}
@@ -229,7 +227,3 @@ safe_as_delete g key h tries some start program e = subst (IsSafeDelete g key h 
 
 pub within_as_delete : (g : Geometry) (key : List ℕ) (h tries : ℕ) → 1 ≤ tries → (start : Option ℕ) (program : Prog DeleteEnd) → program ≡ delete (look_job g key h) tries start → Within (delete_verbs g.max_depth tries) program
 within_as_delete g key h tries some start program e = subst (Within (delete_verbs g.max_depth tries)) (sym e) (delete-within g key h tries some start)
-
--- what a pass that was started for it begins
-pub begins_delete : (g : Geometry) (key : List ℕ) (h tries : ℕ) (start : Option ℕ) (p : Pass) → pass_rest p ≡ pass (look_job g key h) start → p.task.job ≡ look_job g key h → bind (pass_rest p) (after_look 0 (again p.task.job (tries - 1) 1)) ≡ delete (look_job g key h) tries start
-begins_delete g key h tries start p e j = ap (λ x. bind x (after_look 0 (again p.task.job (tries - 1) 1))) e ∙ ap (λ k. bind (pass (look_job g key h) start) (after_look 0 (again k (tries - 1) 1))) j

@@ -4,12 +4,11 @@ ghost use Rattle.op_delete.specs.AtFits.{AtFits, AtFits-prop};
 
 use crate::at::At;
 use crate::end::{DeleteEnd, DeleteOutcome};
-use crate::work::Work;
 use kv_block::Key;
 use node_words::Geometry;
-use scan_pass::{Held, Pass, PassMode};
 use verb_log::Verb;
 use verbs::Machine;
+use work_area::Work;
 
 /// The delete of a key. `start` begins it; it then does the verb that `next` tells and takes its answer by `feed`, until
 /// `next` is None.
@@ -52,23 +51,17 @@ impl DeleteOp {
         ensures waits { IsSome (next_act (delete_rest result)) }
         ensures safe { IsSafeDelete geometry key.now hash tries_left entry (delete_rest result) }
     {
-        DeleteOp {
-            work: Work {
-                pass: Pass::start(geometry, entry, key, hash, PassMode::Look),
-                left: tries_left,
-                lost: 0,
-                live: 0,
-            },
-            at: At::Looking,
-        }
+        let mut work = Work::idle(geometry, 0, key);
+        let at = At::begin(&mut work, geometry, hash, key, entry, tries_left);
+        DeleteOp { work, at }
     }
 
     /// How many counted swaps were lost.
     pub fn lost(&self) -> u32
-        ensures lost { result ≡ self.now.work.lost }
+        ensures lost { result ≡ self.now.work.removal.lost }
         ensures ended { (e : DeleteEnd) → outcome_of (delete_rest self.now) ≡ Some e → e.lost ≡ result }
     {
-        self.work.lost
+        self.work.removal.lost
     }
 
     /// The table where the last look ended; before that, the one that it searched last.
@@ -95,18 +88,7 @@ impl DeleteOp {
     pub fn has_ended(&self) -> bool
         ensures { result ≡ has_ended self.now.at }
     {
-        matches!(self.at, At::Deleted | At::Missing | At::Again)
-    }
-
-    // What the delete tells that has ended so.
-    fn ended(&self, outcome: DeleteOutcome) -> DeleteEnd
-        ensures { result ≡ record { outcome = outcome; table = self.now.work.pass.scan.table; lost = self.now.work.lost } }
-    {
-        DeleteEnd {
-            outcome,
-            table: self.work.pass.table(),
-            lost: self.work.lost,
-        }
+        self.at.has_ended()
     }
 }
 
@@ -123,30 +105,12 @@ impl Machine for DeleteOp {
     ghost rest = { delete_rest };
 
     #[inline(always)]
-    #[tactic(auto, using(crate::proofs::Looking::deletes))]
     fn next(&self) -> Option<Verb> {
-        match self.at {
-            At::Looking => self.work.pass.next(),
-            At::Settle => Some(Verb::Swap {
-                at: self.work.pass.held_at(),
-                expected: self.work.pass.held_word(),
-                word: self.work.live,
-            }),
-            At::Remove => Some(Verb::Swap {
-                at: self.work.pass.held_at(),
-                expected: self.work.live,
-                word: 0,
-            }),
-            At::Deleted | At::Missing | At::Again => None,
-        }
+        self.at.next(&self.work)
     }
 
-    #[tactic(auto, using(crate::proofs::Looking::deletes))]
     fn block(&self) -> Option<u64> {
-        match self.at {
-            At::Looking => self.work.pass.block(),
-            _ => None,
-        }
+        self.at.block(&self.work)
     }
 
     #[inline(always)]
@@ -154,28 +118,15 @@ impl Machine for DeleteOp {
         self.at = At::fed(&mut self.work, self.at, word);
     }
 
-    #[tactic(auto, using(crate::proofs::Looking::deletes))]
     fn asks(&self) -> Option<Key> {
-        match self.at {
-            At::Looking => self.work.pass.asks(),
-            _ => None,
-        }
+        self.at.asks(&self.work)
     }
 
-    #[tactic(auto, using(crate::proofs::Looking::deletes))]
-    fn told(&mut self, hash: u64) {}
+    fn told(&mut self, hash: u64) {
+        self.at = self.at.told(&self.work, hash);
+    }
 
-    #[tactic(auto, using(crate::proofs::Looking::deletes))]
     fn outcome(&self) -> Option<DeleteEnd> {
-        match self.at {
-            At::Deleted => Some(self.ended(DeleteOutcome::Deleted(Held {
-                at: self.work.pass.held_at(),
-                word: self.work.pass.held_word(),
-                value: self.work.pass.held_value(),
-            }))),
-            At::Missing => Some(self.ended(DeleteOutcome::Missing)),
-            At::Again => Some(self.ended(DeleteOutcome::Again)),
-            _ => None,
-        }
+        self.at.end(&self.work)
     }
 }

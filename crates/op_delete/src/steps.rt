@@ -12,17 +12,17 @@ ghost use Rattle.op_delete.specs.Rest.{more, at_rest};
 ghost use Rattle.op_delete.specs.AtFits.{AtFits};
 
 use crate::at::At;
-use crate::work::Work;
 use call_laws::live_form;
 use slot_word::{Mark, read_slot};
 use verbs::Machine;
+use work_area::Work;
 
 impl At {
     /// The look has been fed, or begins.
     #[tactic(auto, using(scan_pass::specs::Ends::waits, crate::proofs::Looking::looks))]
     pub fn looking(work: &mut Work) -> At
-        requires { 1 ≤ work.old.left }
-        ensures rest { at_rest work.new result ≡ bind (pass_rest work.old.pass) (after_look work.old.lost (more work.old)) }
+        requires { 1 ≤ work.old.removal.left }
+        ensures rest { at_rest work.new result ≡ bind (pass_rest work.old.pass) (after_look work.old.removal.lost (more work.old)) }
         ensures fits { AtFits work.new result }
         ensures job { work.new.pass.task.job ≡ work.old.pass.task.job }
     {
@@ -38,19 +38,19 @@ impl At {
     /// The key is held.
     pub fn held(work: &mut Work) -> At
         requires held { IsTrue (is_held work.old.pass.at) }
-        requires left { 1 ≤ work.old.left }
+        requires left { 1 ≤ work.old.removal.left }
         ensures rest { at_rest work.new result ≡ settle_first (held_of work.old.pass) (slot_of (held_of work.old.pass).word)
-            (remove_word work.old.lost (more work.old) (held_of work.old.pass) work.old.pass.scan.table) (more work.old work.old.pass.scan.table) }
+            (remove_word work.old.removal.lost (more work.old) (held_of work.old.pass) work.old.pass.scan.table) (more work.old work.old.pass.scan.table) }
         ensures fits { AtFits work.new result }
         ensures job { work.new.pass.task.job ≡ work.old.pass.task.job }
     {
         let word = work.pass.held_word();
-        work.live = word;
+        work.removal.live = word;
         let Some(slot) = read_slot(word) else {
             return At::Remove;
         };
         if matches!(slot.mark, Mark::Copied) {
-            work.live = live_form(&slot);
+            work.removal.live = live_form(&slot);
             At::Settle
         } else {
             At::Remove
@@ -60,14 +60,14 @@ impl At {
     /// A counted swap was lost: the delete starts again, while swaps may still be lost.
     #[tactic(auto, using(crate::proofs::Looking::agains))]
     pub fn again(work: &mut Work) -> At
-        requires { 1 ≤ work.old.left }
+        requires { 1 ≤ work.old.removal.left }
         ensures rest { at_rest work.new result ≡ more work.old work.old.pass.scan.table }
         ensures fits { AtFits work.new result }
         ensures job { work.new.pass.task.job ≡ work.old.pass.task.job }
     {
-        work.left -= 1;
-        work.lost += 1;
-        if work.left == 0 {
+        work.removal.left -= 1;
+        work.removal.lost += 1;
+        if work.removal.left == 0 {
             return At::Again;
         }
         let table = work.pass.table();
@@ -78,13 +78,13 @@ impl At {
     /// The Settle was tried, and this word was found.
     pub fn settled(work: &mut Work, found: u64) -> At
         requires held { IsTrue (is_held work.old.pass.at) }
-        requires left { 1 ≤ work.old.left }
-        ensures rest { at_rest work.new result ≡ after_settle (held_of work.old.pass) work.old.live
-            (remove_word work.old.lost (more work.old) (held_of work.old.pass) work.old.pass.scan.table) (more work.old work.old.pass.scan.table) found }
+        requires left { 1 ≤ work.old.removal.left }
+        ensures rest { at_rest work.new result ≡ after_settle (held_of work.old.pass) work.old.removal.live
+            (remove_word work.old.removal.lost (more work.old) (held_of work.old.pass) work.old.pass.scan.table) (more work.old work.old.pass.scan.table) found }
         ensures fits { AtFits work.new result }
         ensures job { work.new.pass.task.job ≡ work.old.pass.task.job }
     {
-        if found == work.pass.held_word() || found == work.live {
+        if found == work.pass.held_word() || found == work.removal.live {
             At::Remove
         } else {
             At::again(work)
@@ -94,12 +94,12 @@ impl At {
     /// The Remove was tried, and this word was found.
     pub fn removed(work: &mut Work, found: u64) -> At
         requires held { IsTrue (is_held work.old.pass.at) }
-        requires left { 1 ≤ work.old.left }
-        ensures rest { at_rest work.new result ≡ after_remove work.old.lost (more work.old) (held_of work.old.pass) work.old.pass.scan.table work.old.live found }
+        requires left { 1 ≤ work.old.removal.left }
+        ensures rest { at_rest work.new result ≡ after_remove work.old.removal.lost (more work.old) (held_of work.old.pass) work.old.pass.scan.table work.old.removal.live found }
         ensures fits { AtFits work.new result }
         ensures job { work.new.pass.task.job ≡ work.old.pass.task.job }
     {
-        if found == work.live {
+        if found == work.removal.live {
             At::Deleted
         } else {
             At::again(work)

@@ -1,5 +1,5 @@
 -- A block for the chosen candidate, and its place.
-use Rattle.std.specs.Prelude.{◌≡◌, ℕ, zero, suc, ◌<◌, ◌≤◌, Bool, true, false, cond, nat_le, List, [], ◌∷◌, length, slice_index, Option, Some, None, ◌⊎◌, refl}
+use Rattle.std.specs.Prelude.{◌≡◌, ℕ, zero, suc, ◌<◌, ◌≤◌, Bool, List, [], ◌∷◌, length, slice_index, Option, Some, None, refl}
 use Rattle.std.proofs.Common.{inl, inr, arith, get_or}
 use Rattle.kv_block.specs.Packing.{Pair, IsPair, packed}
 use Rattle.kv_block.proofs.Packed.{packed_least, packed_most}

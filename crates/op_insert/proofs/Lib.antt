@@ -12,7 +12,7 @@ pub mod Bounds
 pub mod Withdrawn
 pub mod Whole
 mod Looks
-mod Acts
+mod PartActs
 mod Bits
 mod Choices
 mod Onward

@@ -27,7 +27,8 @@ use Rattle.block_taking.specs.Ends as takes
 use Rattle.block_taking.specs.declared.progress.Progress.{Progress}
 use Rattle.block_taking.specs.Rest.{take_rest, at_rest as take_at_rest}
 use Rattle.op_insert.specs.Text.{Inserting, exists_with, to_commit, left_again, spent, no_block, part_end, choose, after_look, after_sweep, after_taking, withdraw, place_block}
-use Rattle.op_insert.specs.Looking.{look_form, IsClear}
+use Rattle.work_area.specs.Looking.{look_form}
+use Rattle.op_insert.specs.Looking.{IsClear}
 use Rattle.op_insert.specs.Rest.{clear_of}
 
 -- the word that holds the key

@@ -10,7 +10,7 @@ use Rattle.block_taking.specs.declared.taking.Area.{Area}
 use Rattle.block_taking.specs.Rest.{take_rest}
 use Rattle.op_insert.specs.declared.end.InsertEnd.{InsertEnd}
 use Rattle.op_insert.specs.declared.end.InsertOutcome.TheVariants.{Again as AgainEnd}
-use Rattle.op_insert.specs.declared.work.Work.{Work}
+use Rattle.work_area.specs.declared.work.Work.{Work}
 use Rattle.op_insert.specs.declared.at.At.{At}
 use Rattle.op_insert.specs.declared.at.At.TheVariants.{Look, ParentHeader, Begin, Open, ParentSlot, ParentBlock, ParentHash, Take, Place, Sweep, WithdrawHeld, WithdrawGone, WithdrawSpent, Commit, Lost, Left, Inserted, Exists, NeedRoom, Again, NoBlock, Out}
 use Rattle.op_insert.specs.Text.{Inserting, Part, look_of, after_look, after_sweep, after_taking, insert_from, insert}
@@ -188,6 +188,11 @@ pub start-rest : (p : Pass) (i j : Inserting) (n : ℕ) (entry kept : Option ℕ
 start-rest p i j n entry kept a b e f g h =
     ap (λ v. bind (bind (pass_rest p) (after_look v kept b i.tries)) (next_part v n)) e ∙ ap (λ v. bind (bind v (after_look i kept b i.tries)) (next_part i n)) f
     ∙ ap (λ v. bind (bind (pass (look_of i) entry) (after_look i kept v i.tries)) (next_part i n)) g ∙ insert_first i n entry kept a i.tries ∙ ap (λ v. insert_from i (suc v) entry kept a i.tries) h
+
+-- what a look and a taking that were made for it begin
+pub begins_insert : (i : Inserting) (entry kept : Option ℕ) (a : Area) (w : Work) → pass_rest w.pass ≡ pass (look_of i) entry → inserting w ≡ i → area w ≡ a → w.numbers.kept ≡ kept → w.numbers.left ≡ i.tries
+    → w.numbers.parts ≡ i.tries + (i.job.geometry.max_depth - i.job.geometry.first_depth) → at_rest w Look ≡ insert i entry kept a
+begins_insert i entry kept a w e s f k l n = (λ t. bind (bind (pass_rest w.pass) (after_look (inserting w) (k t) (area w) (l t))) (next_part (inserting w) w.numbers.parts)) ∙ start-rest w.pass i (inserting w) w.numbers.parts entry kept a (area w) s e f n
 
 pub ruleset agains = (insert-none, insert-more)
 

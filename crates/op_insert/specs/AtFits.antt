@@ -5,7 +5,7 @@ use Rattle.verbs.specs.Programs.{next_act}
 use Rattle.scan_pass.specs.Ends.{is_held}
 use Rattle.scan_pass.specs.Rest.{pass_rest}
 use Rattle.block_taking.specs.Rest.{take_rest}
-use Rattle.op_insert.specs.declared.work.Work.{Work}
+use Rattle.work_area.specs.declared.work.Work.{Work}
 use Rattle.op_insert.specs.declared.at.At.{At}
 use Rattle.op_insert.specs.declared.at.At.TheVariants.{Look, ParentHeader, Begin, Open, ParentSlot, ParentBlock, ParentHash, Take, Place, Sweep, WithdrawHeld, WithdrawGone, WithdrawSpent, Commit, Lost, Left, Inserted, Exists, NeedRoom, Again, NoBlock, Out}
 use Rattle.op_insert.specs.Looking.{IsClear}

@@ -1,7 +1,6 @@
 pub mod Text
 pub mod Bound
 pub mod Law
-pub mod ParentWords
 pub mod Looking
 pub mod Rest
 pub mod AtFits

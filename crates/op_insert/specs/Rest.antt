@@ -15,10 +15,10 @@ use Rattle.block_taking.specs.Text.{need}
 use Rattle.block_taking.specs.Rest.{take_rest}
 use Rattle.op_insert.specs.declared.end.InsertEnd.{InsertEnd}
 use Rattle.op_insert.specs.declared.end.InsertOutcome.TheVariants.{Inserted as InsertedEnd, Again as AgainEnd}
-use Rattle.op_insert.specs.declared.work.Work.{Work}
+use Rattle.work_area.specs.declared.work.Work.{Work}
 use Rattle.op_insert.specs.declared.at.At.{At}
 use Rattle.op_insert.specs.declared.at.At.TheVariants.{Look, ParentHeader, Begin, Open, ParentSlot, ParentBlock, ParentHash, Take, Place, Sweep, WithdrawHeld, WithdrawGone, WithdrawSpent, Commit, Lost, Left, Inserted, Exists, NeedRoom, Again, NoBlock, Out}
-use Rattle.op_insert.specs.ParentWords.{words_of}
+use Rattle.work_area.specs.ParentWords.{words_of}
 use Rattle.op_insert.specs.Text.{Inserting, Part, to_commit, exists_with, start_again, left_again, spent, no_block, need_room, part_end, choice_of, slot_in, after_look, after_sweep, after_taking, withdraw, place_block, take_and_place, on_parent_word, choose_filling, help_from, help, on_part, insert_from}
 
 -- what the insert was started with

@@ -1,20 +1,15 @@
 //! The machine.
 
-ghost use Rattle.std.specs.Prelude.{◌≡◌, ◌+◌, ◌-◌};
 ghost use Rattle.op_insert.specs.AtFits.{AtFits, AtFits-prop};
 
 use crate::at::At;
 use crate::end::{InsertEnd, InsertOutcome};
-use crate::parent_words::ParentWords;
-use crate::turns::{live_word, part_asks, part_block, part_verb, pending_word};
-use crate::work::{Numbers, Work};
-use block_taking::{Area, TakeOp};
-use bucket_group::Free;
-use kv_block::{Key, Value, write_block};
+use block_taking::Area;
+use kv_block::{Key, Value};
 use node_words::Geometry;
-use scan_pass::{Held, Job, Pass, PassMode};
 use verb_log::Verb;
 use verbs::Machine;
+use work_area::Work;
 
 /// The insert of a key with its value. `start` begins it; it then does the verb that `next` tells and takes its answer by
 /// `feed`, and where `asks` names a key it takes that key's hash by `told`, until neither is left.
@@ -25,15 +20,8 @@ pub struct InsertOp {
     ghost fits: { AtFits work at } by { AtFits-prop work at },
 }
 
-// How many parts may follow the first one.
-fn parts_of(geometry: &Geometry, tries: u32) -> u64
-    ensures { result ≡ tries + (geometry.now.max_depth - geometry.now.first_depth) }
-{
-    u64::from(tries) + u64::from(geometry.max_depth - geometry.first_depth)
-}
-
 impl InsertOp {
-    ghost use Rattle.std.specs.Prelude.{◌<◌, ◌^◌, Some, IsSome, option_map};
+    ghost use Rattle.std.specs.Prelude.{◌≡◌, ◌<◌, ◌^◌, Some, IsSome, option_map};
     ghost use Rattle.verbs.specs.Programs.{next_act, outcome_of, Within};
     ghost use Rattle.kv_block.specs.Packing.{packed};
     ghost use Rattle.pass_text.specs.declared.job.PassMode.TheVariants.{Look};
@@ -71,38 +59,11 @@ impl InsertOp {
         ensures waits { IsSome (next_act (insert_rest result)) }
         ensures safe { IsSafeInsert (start_of geometry client hash key.now value.now tries_left) entry kept area (insert_rest result) }
     {
-        let job = Job {
-            geometry,
-            key: *key,
-            hash,
-            mode: PassMode::Look,
-        };
-        let numbers = Numbers {
-            tries: tries_left,
-            left: tries_left,
-            parts: parts_of(&geometry, tries_left),
-            kept,
-            own: 0,
-            block: 0,
-            parent: 0,
-            free: Free::new(),
-            index: 0,
-            more: 0,
-            bucket: 0,
-            from: 0,
-            next: 0,
-            after: 0,
-        };
-        InsertOp {
-            work: Work {
-                job,
-                pass: Pass::start(geometry, entry, key, hash, PassMode::Look),
-                take: TakeOp::ready(geometry, client, write_block(key, value), area),
-                words: ParentWords::new(),
-                numbers,
-            },
-            at: At::Look,
-        }
+        let mut work = Work::idle(geometry, client, key);
+        let at = At::begin(
+            &mut work, geometry, client, hash, key, value, entry, kept, area, tries_left,
+        );
+        InsertOp { work, at }
     }
 
     /// How many counted swaps were lost, of an insert that has ended as no Again.
@@ -111,14 +72,7 @@ impl InsertOp {
         ensures lost { result ≡ lost_of self.now.work self.now.at }
         ensures ended { (e : InsertEnd) → outcome_of (insert_rest self.now) ≡ Some e → e.lost ≡ result }
     {
-        if matches!(self.at, At::Again) {
-            self.work.numbers.tries
-        } else {
-            self.work
-                .numbers
-                .tries
-                .saturating_sub(self.work.numbers.left)
-        }
+        self.at.lost_of(&self.work)
     }
 
     /// The table where the last pass ended; before that, the one that it searched last.
@@ -156,22 +110,7 @@ impl InsertOp {
     pub fn has_ended(&self) -> bool
         ensures { result ≡ has_ended self.now.at }
     {
-        matches!(
-            self.at,
-            At::Inserted | At::Exists | At::NeedRoom | At::Again | At::NoBlock | At::Out
-        )
-    }
-
-    // What the insert tells that has ended so.
-    fn ended(&self, outcome: InsertOutcome) -> InsertEnd
-        ensures { result ≡ record { outcome = outcome; table = self.now.work.pass.scan.table; area = area self.now.work; lost = lost_of self.now.work self.now.at } }
-    {
-        InsertEnd {
-            outcome,
-            table: self.work.pass.table(),
-            area: self.work.take.area(),
-            lost: self.lost(),
-        }
+        self.at.has_ended()
     }
 }
 
@@ -188,27 +127,12 @@ impl Machine for InsertOp {
     ghost rest = { insert_rest };
 
     #[inline(always)]
-    #[tactic(auto, using(crate::proofs::Onward::whole))]
     fn next(&self) -> Option<Verb> {
-        if self.at.acts() {
-            return part_verb(&self.work, self.at);
-        }
-        match self.at {
-            At::Commit => Some(Verb::Swap {
-                at: self.work.numbers.own,
-                expected: pending_word(&self.work),
-                word: live_word(&self.work),
-            }),
-            _ => None,
-        }
+        self.at.next(&self.work)
     }
 
-    #[tactic(auto, using(crate::proofs::Onward::whole))]
     fn block(&self) -> Option<u64> {
-        if self.at.acts() {
-            return part_block(&self.work, self.at);
-        }
-        None
+        self.at.block(&self.work)
     }
 
     #[inline(always)]
@@ -216,43 +140,15 @@ impl Machine for InsertOp {
         self.at = At::answered(&mut self.work, self.at, word);
     }
 
-    #[tactic(auto, using(crate::proofs::Onward::whole))]
     fn asks(&self) -> Option<Key> {
-        if self.at.acts() {
-            return part_asks(&self.work, self.at);
-        }
-        None
+        self.at.asks(&self.work)
     }
 
     fn told(&mut self, hash: u64) {
         self.at = At::told(&mut self.work, self.at, hash);
     }
 
-    #[tactic(auto, using(crate::proofs::Onward::whole, crate::proofs::Looks::ended))]
     fn outcome(&self) -> Option<InsertEnd> {
-        match self.at {
-            At::Inserted => Some(self.ended(InsertOutcome::Inserted {
-                at: self.work.numbers.block,
-            })),
-            At::Exists => Some(self.ended(InsertOutcome::Exists(Held {
-                at: self.work.pass.held_at(),
-                word: self.work.pass.held_word(),
-                value: self.work.pass.held_value(),
-            }))),
-            At::NeedRoom => match self.work.pass.passed() {
-                Some(passed) => Some(self.ended(InsertOutcome::NeedRoom {
-                    passed,
-                    kept: self.work.numbers.kept,
-                })),
-                None => None,
-            },
-            At::Again => Some(self.ended(InsertOutcome::Again)),
-            At::Out => Some(self.ended(InsertOutcome::Again)),
-            At::NoBlock => Some(self.ended(InsertOutcome::NoBlock {
-                next: self.work.take.nexts(),
-                need: u64::from(self.work.take.need()),
-            })),
-            _ => None,
-        }
+        self.at.end(&self.work)
     }
 }

@@ -11,19 +11,19 @@ ghost use Rattle.scan_pass.specs.Ends.{held_of, is_held};
 ghost use Rattle.scan_pass.specs.Rest.{pass_rest};
 ghost use Rattle.block_taking.specs.Rest.{take_rest};
 ghost use Rattle.op_insert.specs.Looking.{IsClear};
-ghost use Rattle.op_insert.specs.ParentWords.{words_of};
+ghost use Rattle.work_area.specs.ParentWords.{words_of};
 ghost use Rattle.op_insert.specs.Text.{places_of, slot_in, choice_of, after_look, after_sweep, after_taking, after_loss, sweep_of, choose, choose_among, on_parent_word, is_plain_at, help_from};
 ghost use Rattle.op_insert.specs.Rest.{inserting, area, clear_of, good, choices, not_free, chooses, on_hash, after_words, split_depth, part_rest, Same, acts};
 ghost use Rattle.op_insert.specs.AtFits.{AsksParent, HasChosen, PartFits};
 
 use crate::at::At;
 use crate::readings::{is_plain_at, low_bits, split_depth};
-use crate::work::Work;
 use bucket_group::{choose, places};
 use node_words::slot_at;
 use scan_pass::PassMode;
 use slot_word::{State, read_slot};
 use verbs::Machine;
+use work_area::Work;
 
 /// The slot of candidate `index` in a table.
 #[tactic(auto, unfolding(crate::specs::Text::slot_in))]
@@ -323,7 +323,7 @@ impl At {
     }
 
     /// The verb of a part was answered.
-    #[tactic(auto, using(crate::proofs::Acts::binds))]
+    #[tactic(auto, using(crate::proofs::PartActs::binds))]
     pub fn fed(work: &mut Work, at: At, word: u64) -> At
         requires fits { PartFits work.old at }
         requires acts { IsTrue (acts at) }

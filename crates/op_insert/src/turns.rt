@@ -9,13 +9,13 @@ ghost use Rattle.op_insert.specs.AtFits.{PartFits, AtFits};
 use crate::at::At;
 use crate::readings::{plain_of, split_depth, splitting_of};
 use crate::steps::slot_in;
-use crate::work::Work;
 use bucket_group::fingerprint;
 use kv_block::{Key, block_key};
 use node_words::{bucket_header_at, header_at};
 use scan_pass::PassMode;
 use verb_log::Verb;
 use verbs::Machine;
+use work_area::Work;
 
 impl At {
     /// Whether an act of a part is left.
@@ -159,7 +159,7 @@ fn word_of(print: u8, len: u8, mark: u64, at: u64) -> u64
 }
 
 /// The verb of a part.
-#[tactic(auto, using(crate::proofs::Acts::binds, crate::proofs::Acts::verbs))]
+#[tactic(auto, using(crate::proofs::PartActs::binds, crate::proofs::PartActs::verbs))]
 pub fn part_verb(work: &Work, at: At) -> Option<Verb>
     requires fits { PartFits work.now at }
     requires acts { IsTrue (acts at) }
@@ -204,7 +204,7 @@ pub fn part_verb(work: &Work, at: At) -> Option<Verb>
 }
 
 /// The block of which that verb reads a word.
-#[tactic(auto, using(crate::proofs::Acts::binds, crate::proofs::Acts::verbs))]
+#[tactic(auto, using(crate::proofs::PartActs::binds, crate::proofs::PartActs::verbs))]
 pub fn part_block(work: &Work, at: At) -> Option<u64>
     requires fits { PartFits work.now at }
     requires acts { IsTrue (acts at) }
@@ -220,7 +220,7 @@ pub fn part_block(work: &Work, at: At) -> Option<u64>
 }
 
 /// The key whose hash a part wants.
-#[tactic(auto, using(crate::proofs::Acts::binds, crate::proofs::Acts::verbs))]
+#[tactic(auto, using(crate::proofs::PartActs::binds, crate::proofs::PartActs::verbs))]
 pub fn part_asks(work: &Work, at: At) -> Option<Key>
     requires fits { PartFits work.now at }
     requires acts { IsTrue (acts at) }

@@ -15,4 +15,4 @@ mod tests;
 
 pub use end::{SearchEnd, SearchOutcome};
 pub use laws::law_search_safe;
-pub use search::SearchOp;
+pub use search::{SearchOp, search_end};

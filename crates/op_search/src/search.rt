@@ -1,6 +1,6 @@
 //! The machine.
 
-ghost use Rattle.std.specs.Prelude.{◌≡◌, ◌<◌, ◌^◌, IsSome, Some, ℕ, Option, option_map};
+ghost use Rattle.std.specs.Prelude.{◌≡◌, ◌<◌, ◌^◌, IsSome, IfSome, Some, ℕ, Option, option_map};
 ghost use Rattle.verbs.specs.Programs.{next_act, outcome_of, mapped, Within};
 ghost use Rattle.pass_text.specs.declared.job.PassMode.TheVariants.{Look};
 ghost use Rattle.pass_text.specs.Bound.{pass_verbs};
@@ -41,6 +41,21 @@ fn found(passed: &Passed) -> SearchEnd
     SearchEnd {
         outcome: found_by(passed.end),
         table: passed.table,
+    }
+}
+
+/// How a search ends by its look. None exactly until it has ended.
+#[tactic(auto, using(verbs::proofs::Progs::mappeds))]
+pub fn search_end(look: &Pass) -> Option<SearchEnd>
+    ensures value { result ≡ outcome_of (mapped found (pass_rest look.now)) }
+    ensures low { IfSome result (λ end. end.table < 2 ^ 46) }
+{
+    match look.passed() {
+        Some(passed) => {
+            let _table = look.table();
+            Some(found(&passed))
+        }
+        None => None,
     }
 }
 
@@ -139,9 +154,6 @@ impl Machine for SearchOp {
 
     #[tactic(auto, using(verbs::proofs::Progs::mappeds))]
     fn outcome(&self) -> Option<SearchEnd> {
-        match self.pass.passed() {
-            Some(passed) => Some(found(&passed)),
-            None => None,
-        }
+        search_end(&self.pass)
     }
 }

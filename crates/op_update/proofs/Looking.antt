@@ -26,10 +26,10 @@ use Rattle.block_taking.specs.declared.take_op.TakeOp.{TakeOp}
 use Rattle.block_taking.specs.Rest.{at_rest as take_at_rest, take_rest}
 use Rattle.op_update.specs.declared.end.UpdateEnd.{UpdateEnd}
 use Rattle.op_update.specs.declared.end.UpdateOutcome.TheVariants.{Again, Missing}
-use Rattle.op_update.specs.declared.work.Work.{Work}
+use Rattle.work_area.specs.declared.work.Work.{Work}
 use Rattle.op_update.specs.declared.at.At.{At}
 use Rattle.op_update.specs.declared.at.At.TheVariants.{Looking, Taking, NoBlock}
-use Rattle.op_update.specs.Text.{Plan, More, refused, again, after_look, on_held, after_take, ended}
+use Rattle.op_update.specs.Text.{Plan, More, refused, again, after_look, on_held, after_take, ended, update}
 use Rattle.op_update.specs.Rest.{plan, area_of, more, at_rest}
 use Rattle.op_update.specs.AtFits.{AtFits}
 
@@ -114,16 +114,16 @@ pub ruleset fulls = (full-some, full-none)
 
 -- where the key is held and no block is kept, the taking begins
 abbrev taken_with : Work → TakeOp → TakeEnd → Prog UpdateEnd
-taken_with w q e = let u : Plan = record { job = w.pass.task.job; print = w.print; taking = q.taking; tries = w.tries } in after_take u (again u w.rounds) (held_of w.pass) w.pass.scan.table e e.outcome
+taken_with w q e = let u : Plan = record { job = w.pass.task.job; print = w.replacement.print; taking = q.taking; tries = w.replacement.tries } in after_take u (again u w.replacement.rounds) (held_of w.pass) w.pass.scan.table e e.outcome
 
 same_plan : (w : Work) (q : TakeOp) (p : Prog TakeEnd) → q.taking ≡ w.take.taking → bind p (taken_with w q) ≡ bind p (λ e. after_take (plan w) (more w) (held_of w.pass) w.pass.scan.table e e.outcome)
-same_plan w q p e = ap (λ (k : takings.Taking). let u : Plan = record { job = w.pass.task.job; print = w.print; taking = k; tries = w.tries } in bind p (λ x. after_take u (again u w.rounds) (held_of w.pass) w.pass.scan.table x x.outcome)) e
+same_plan w q p e = ap (λ (k : takings.Taking). let u : Plan = record { job = w.pass.task.job; print = w.replacement.print; taking = k; tries = w.replacement.tries } in bind p (λ x. after_take u (again u w.replacement.rounds) (held_of w.pass) w.pass.scan.table x x.outcome)) e
 
-pub take-begins : (w : Work) (q : TakeOp) (kept : Option ℕ) → kept ≡ None → take_rest q ≡ take_block w.take.taking (area_of w) w.left → q.taking ≡ w.take.taking
-    → bind (take_rest q) (taken_with w q) ≡ on_held (plan w) (more w) (held_of w.pass) w.pass.scan.table kept (area_of w) w.left
+pub take-begins : (w : Work) (q : TakeOp) (kept : Option ℕ) → kept ≡ None → take_rest q ≡ take_block w.take.taking (area_of w) w.replacement.left → q.taking ≡ w.take.taking
+    → bind (take_rest q) (taken_with w q) ≡ on_held (plan w) (more w) (held_of w.pass) w.pass.scan.table kept (area_of w) w.replacement.left
 take-begins w q kept n e t =
     same_plan w q (take_rest q) t ∙ ap (λ p. bind p (λ x. after_take (plan w) (more w) (held_of w.pass) w.pass.scan.table x x.outcome)) e
-    ∙ ap (λ k. on_held (plan w) (more w) (held_of w.pass) w.pass.scan.table k (area_of w) w.left) (sym n)
+    ∙ ap (λ k. on_held (plan w) (more w) (held_of w.pass) w.pass.scan.table k (area_of w) w.replacement.left) (sym n)
 
 -- how often it may start again
 again-ends : (u : Plan) (n : ℕ) (kept : Option ℕ) (area : Area) (left t : ℕ) → left ≡ 0 → again u n kept area left t ≡ ended u Again t area left
@@ -167,21 +167,21 @@ module _ (w : Work) (at : At) (e : at ≡ Looking) (h : AtFits w at) where
   waits = subst (AtFits w) e h
 
   pub look-next : next_verb (pass_rest w.pass) ≡ next_verb (at_rest w at)
-  look-next = sym (next_verb-bind (pass_rest w.pass) (after_look (plan w) (more w) w.kept (area_of w) w.left) waits) ∙ ap (λ a. next_verb (at_rest w a)) (sym e)
+  look-next = sym (next_verb-bind (pass_rest w.pass) (after_look (plan w) (more w) w.replacement.kept (area_of w) w.replacement.left) waits) ∙ ap (λ a. next_verb (at_rest w a)) (sym e)
 
   pub look-block : block_of (pass_rest w.pass) ≡ block_of (at_rest w at)
-  look-block = sym (block_of-bind (pass_rest w.pass) (after_look (plan w) (more w) w.kept (area_of w) w.left) waits) ∙ ap (λ a. block_of (at_rest w a)) (sym e)
+  look-block = sym (block_of-bind (pass_rest w.pass) (after_look (plan w) (more w) w.replacement.kept (area_of w) w.replacement.left) waits) ∙ ap (λ a. block_of (at_rest w a)) (sym e)
 
   pub look-asks : asked (pass_rest w.pass) ≡ asked (at_rest w at)
-  look-asks = sym (asked-bind (pass_rest w.pass) (after_look (plan w) (more w) w.kept (area_of w) w.left) waits) ∙ ap (λ a. asked (at_rest w a)) (sym e)
+  look-asks = sym (asked-bind (pass_rest w.pass) (after_look (plan w) (more w) w.replacement.kept (area_of w) w.replacement.left) waits) ∙ ap (λ a. asked (at_rest w a)) (sym e)
 
   pub look-outcome : None ≡ outcome_of (at_rest w at)
-  look-outcome = sym (outcome-bind (pass_rest w.pass) (after_look (plan w) (more w) w.kept (area_of w) w.left) waits) ∙ ap (λ a. outcome_of (at_rest w a)) (sym e)
+  look-outcome = sym (outcome-bind (pass_rest w.pass) (after_look (plan w) (more w) w.replacement.kept (area_of w) w.replacement.left) waits) ∙ ap (λ a. outcome_of (at_rest w a)) (sym e)
 
-  pub look-act : (answer : ℕ) (q : Pass) → pass_rest q ≡ after (pass_rest w.pass) answer → bind (pass_rest q) (after_look (plan w) (more w) w.kept (area_of w) w.left) ≡ after (at_rest w at) answer
+  pub look-act : (answer : ℕ) (q : Pass) → pass_rest q ≡ after (pass_rest w.pass) answer → bind (pass_rest q) (after_look (plan w) (more w) w.replacement.kept (area_of w) w.replacement.left) ≡ after (at_rest w at) answer
   look-act answer q g =
-      ap (λ x. bind x (after_look (plan w) (more w) w.kept (area_of w) w.left)) g
-      ∙ sym (after-bind (pass_rest w.pass) (after_look (plan w) (more w) w.kept (area_of w) w.left) answer waits) ∙ ap (λ a. after (at_rest w a) answer) (sym e)
+      ap (λ x. bind x (after_look (plan w) (more w) w.replacement.kept (area_of w) w.replacement.left)) g
+      ∙ sym (after-bind (pass_rest w.pass) (after_look (plan w) (more w) w.replacement.kept (area_of w) w.replacement.left) answer waits) ∙ ap (λ a. after (at_rest w a) answer) (sym e)
 
 -- .. and so are those of the taking
 abbrev taken_by : Work → TakeEnd → Prog UpdateEnd
@@ -216,7 +216,7 @@ module _ (w : Work) (at : At) (e : at ≡ NoBlock) (h : AtFits w at) where
   by_outcome read none g (ret x) f = none (g x)
 
   abbrev told : TakeEnd → UpdateEnd
-  told x = record { outcome = refused x.outcome; table = w.pass.scan.table; area = area_of w; lost = w.tries - w.left }
+  told x = record { outcome = refused x.outcome; table = w.pass.scan.table; area = area_of w; lost = w.replacement.tries - w.replacement.left }
 
   pub full-next : None ≡ next_verb (at_rest w at)
   full-next = sym (by_outcome next_verb (λ a. refl) told (take_rest w.take) full) ∙ ap (λ a. next_verb (at_rest w a)) (sym e)
@@ -228,3 +228,10 @@ module _ (w : Work) (at : At) (e : at ≡ NoBlock) (h : AtFits w at) where
   full-asks = sym (by_outcome asked (λ a. refl) told (take_rest w.take) full) ∙ ap (λ a. asked (at_rest w a)) (sym e)
 
 pub ruleset updates = (look-next, look-block, look-asks, look-outcome, look-act, take-next, take-block, take-asks, take-outcome, full-next, full-block, full-asks)
+
+-- what a look and a taking that were made for it begin
+pub begins_update : (u : Plan) (area : Area) (start : Option ℕ) (w : Work) → pass_rest w.pass ≡ pass u.job start → plan w ≡ u → area_of w ≡ area → w.replacement.kept ≡ None → w.replacement.left ≡ u.tries → w.replacement.rounds ≡ u.tries - 1
+    → at_rest w Looking ≡ update u area start
+begins_update u area start w e p a k l r = λ i. bind (e i) (after_look (p i) (again (p i) (r i)) (k i) (a i) (l i))
+
+pub ruleset begins = (begins_update)

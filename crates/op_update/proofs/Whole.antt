@@ -80,9 +80,6 @@ use Rattle.op_update.specs.declared.end.UpdateOutcome.TheVariants.{Updated, Agai
 use Rattle.op_update.specs.Text.{Plan, More, new_word, ended, after_replace, replace_word, with_block, after_take, on_held, on_end, after_look, again, update}
 use Rattle.op_update.specs.Bound.{update_round, update_verbs}
 use Rattle.op_update.specs.Law.{plan_of, HasUpdated, IsSafeUpdate, UpdateIsSafe}
-use Rattle.scan_pass.specs.declared.pass.Pass.{Pass}
-use Rattle.scan_pass.specs.Rest.{pass_rest}
-use Rattle.block_taking.specs.declared.take_op.TakeOp.{TakeOp}
 use Rattle.op_update.proofs.Bounds.{update-within}
 use Rattle.op_update.proofs.Kept.{owns_since, kept_block_since, owns_slot, kept_block_slot, owns_apart}
 
@@ -343,14 +340,3 @@ safe_as_update g client pair ip h tries some area start program e = subst (IsSaf
 
 pub within_as_update : (g : Geometry) (client : ℕ) (pair : Pair) (h tries : ℕ) → 1 ≤ tries → (area : Area) (start : Option ℕ) (program : Prog UpdateEnd) → program ≡ update (plan_of g client pair h tries) area start → Within (update_verbs (plan_of g client pair h tries)) program
 within_as_update g client pair h tries some area start program e = subst (Within (update_verbs (plan_of g client pair h tries))) (sym e) (update-within g client pair h tries some area start)
-
--- what a pass and a taking that were made for it begin
-pub begins_update : (g : Geometry) (client : ℕ) (pair : Pair) (h tries : ℕ) (area : Area) (start : Option ℕ) (p : Pass) (q : TakeOp) (print : ℕ) (block : List ℕ) → pass_rest p ≡ pass (look_job g pair.key h) start → p.task.job ≡ look_job g pair.key h → print ≡ fingerprint_of h → q.taking ≡ record { geometry = g; client = client; block = block } → block ≡ packed pair.key pair.value → q.progress.area ≡ area
-    → (let v : Plan = record { job = p.task.job; print = print; taking = q.taking; tries = tries } in bind (pass_rest p) (after_look v (again v (tries - 1)) None q.progress.area tries)) ≡ update (plan_of g client pair h tries) area start
-begins_update g client pair h tries area start p q print block e j f t b a =
-    ap (λ x. let v : Plan = record { job = p.task.job; print = print; taking = q.taking; tries = tries } in bind x (after_look v (again v (tries - 1)) None q.progress.area tries)) e
-    ∙ ap (λ x. let v : Plan = record { job = x; print = print; taking = q.taking; tries = tries } in bind (pass (look_job g pair.key h) start) (after_look v (again v (tries - 1)) None q.progress.area tries)) j
-    ∙ ap (λ x. let v : Plan = record { job = look_job g pair.key h; print = x; taking = q.taking; tries = tries } in bind (pass (look_job g pair.key h) start) (after_look v (again v (tries - 1)) None q.progress.area tries)) f
-    ∙ ap (λ x. let v : Plan = record { job = look_job g pair.key h; print = fingerprint_of h; taking = x; tries = tries } in bind (pass (look_job g pair.key h) start) (after_look v (again v (tries - 1)) None q.progress.area tries)) t
-    ∙ ap (λ x. let v : Plan = record { job = look_job g pair.key h; print = fingerprint_of h; taking = record { geometry = g; client = client; block = x }; tries = tries } in bind (pass (look_job g pair.key h) start) (after_look v (again v (tries - 1)) None q.progress.area tries)) b
-    ∙ ap (λ x. bind (pass (look_job g pair.key h) start) (after_look (plan_of g client pair h tries) (again (plan_of g client pair h tries) (tries - 1)) None x tries)) a

@@ -5,7 +5,7 @@ use Rattle.verbs.specs.Programs.{next_act, outcome_of}
 use Rattle.scan_pass.specs.Ends.{is_held}
 use Rattle.scan_pass.specs.Rest.{pass_rest}
 use Rattle.block_taking.specs.Rest.{take_rest}
-use Rattle.op_update.specs.declared.work.Work.{Work}
+use Rattle.work_area.specs.declared.work.Work.{Work}
 use Rattle.op_update.specs.declared.at.At.{At}
 use Rattle.op_update.specs.declared.at.At.TheVariants.{Looking, Taking, Settle, Replace, Updated, Missing, Again, NoBlock}
 

@@ -12,17 +12,17 @@ ghost use Rattle.op_update.specs.Rest.{plan, area_of, more, at_rest};
 ghost use Rattle.op_update.specs.AtFits.{AtFits};
 
 use crate::at::At;
-use crate::work::Work;
 use block_taking::{TakeEnd, TakeOutcome};
 use call_laws::live_form;
 use slot_word::{Mark, read_slot};
 use verbs::Machine;
+use work_area::Work;
 
 impl At {
     /// The look has been fed, or begins.
     #[tactic(auto, using(scan_pass::specs::Ends::waits, crate::proofs::Looking::looks))]
     pub fn looking(work: &mut Work) -> At
-        ensures rest { at_rest work.new result ≡ bind (pass_rest work.old.pass) (after_look (plan work.old) (more work.old) work.old.kept (area_of work.old) work.old.left) }
+        ensures rest { at_rest work.new result ≡ bind (pass_rest work.old.pass) (after_look (plan work.old) (more work.old) work.old.replacement.kept (area_of work.old) work.old.replacement.left) }
         ensures fits { AtFits work.new result }
         ensures plan { plan work.new ≡ plan work.old }
     {
@@ -38,17 +38,17 @@ impl At {
     /// The key is held.
     pub fn held(work: &mut Work) -> At
         requires { IsTrue (is_held work.old.pass.at) }
-        ensures rest { at_rest work.new result ≡ on_held (plan work.old) (more work.old) (held_of work.old.pass) work.old.pass.scan.table work.old.kept (area_of work.old) work.old.left }
+        ensures rest { at_rest work.new result ≡ on_held (plan work.old) (more work.old) (held_of work.old.pass) work.old.pass.scan.table work.old.replacement.kept (area_of work.old) work.old.replacement.left }
         ensures fits { AtFits work.new result }
         ensures plan { plan work.new ≡ plan work.old }
     {
-        match work.kept {
+        match work.replacement.kept {
             Some(block) => {
-                work.block = block;
+                work.replacement.block = block;
                 At::settling(work)
             }
             None => {
-                work.take.restart(work.left);
+                work.take.restart(work.replacement.left);
                 At::Taking
             }
         }
@@ -57,17 +57,17 @@ impl At {
     /// The new block stands at its address.
     pub fn settling(work: &mut Work) -> At
         requires { IsTrue (is_held work.old.pass.at) }
-        ensures rest { at_rest work.new result ≡ with_block (plan work.old) (more work.old) (held_of work.old.pass) work.old.pass.scan.table work.old.block (area_of work.old) work.old.left }
+        ensures rest { at_rest work.new result ≡ with_block (plan work.old) (more work.old) (held_of work.old.pass) work.old.pass.scan.table work.old.replacement.block (area_of work.old) work.old.replacement.left }
         ensures fits { AtFits work.new result }
         ensures plan { plan work.new ≡ plan work.old }
     {
         let word = work.pass.held_word();
-        work.live = word;
+        work.replacement.live = word;
         let Some(slot) = read_slot(word) else {
             return At::Replace;
         };
         if matches!(slot.mark, Mark::Copied) {
-            work.live = live_form(&slot);
+            work.replacement.live = live_form(&slot);
             At::Settle
         } else {
             At::Replace
@@ -97,10 +97,10 @@ impl At {
         ensures fits { AtFits work.new result }
         ensures plan { plan work.new ≡ plan work.old }
     {
-        work.left = end.left;
+        work.replacement.left = end.left;
         match end.outcome {
             TakeOutcome::Taken { at } => {
-                work.block = at;
+                work.replacement.block = at;
                 At::settling(work)
             }
             TakeOutcome::NoBlock { .. } => At::NoBlock,
@@ -111,16 +111,16 @@ impl At {
     /// A counted swap was lost with the new block in hand: the update starts again and keeps it, while swaps may still be lost.
     #[tactic(auto, using(crate::proofs::Looking::agains))]
     pub fn again(work: &mut Work) -> At
-        ensures rest { at_rest work.new result ≡ more work.old (Some work.old.block) (area_of work.old) (work.old.left - 1) work.old.pass.scan.table }
+        ensures rest { at_rest work.new result ≡ more work.old (Some work.old.replacement.block) (area_of work.old) (work.old.replacement.left - 1) work.old.pass.scan.table }
         ensures fits { AtFits work.new result }
         ensures plan { plan work.new ≡ plan work.old }
     {
-        work.left = work.left.saturating_sub(1);
-        work.kept = Some(work.block);
-        if work.left == 0 || work.rounds == 0 {
+        work.replacement.left = work.replacement.left.saturating_sub(1);
+        work.replacement.kept = Some(work.replacement.block);
+        if work.replacement.left == 0 || work.replacement.rounds == 0 {
             return At::Again;
         }
-        work.rounds -= 1;
+        work.replacement.rounds -= 1;
         let table = work.pass.table();
         work.pass.restart(table);
         At::looking(work)
@@ -129,13 +129,13 @@ impl At {
     /// The Settle was tried, and this word was found.
     pub fn settled(work: &mut Work, found: u64) -> At
         requires { IsTrue (is_held work.old.pass.at) }
-        ensures rest { at_rest work.new result ≡ after_settle (held_of work.old.pass) work.old.live
-            (replace_word (plan work.old) (more work.old) (held_of work.old.pass) work.old.pass.scan.table work.old.block (area_of work.old) work.old.left)
-            (more work.old (Some work.old.block) (area_of work.old) (work.old.left - 1) work.old.pass.scan.table) found }
+        ensures rest { at_rest work.new result ≡ after_settle (held_of work.old.pass) work.old.replacement.live
+            (replace_word (plan work.old) (more work.old) (held_of work.old.pass) work.old.pass.scan.table work.old.replacement.block (area_of work.old) work.old.replacement.left)
+            (more work.old (Some work.old.replacement.block) (area_of work.old) (work.old.replacement.left - 1) work.old.pass.scan.table) found }
         ensures fits { AtFits work.new result }
         ensures plan { plan work.new ≡ plan work.old }
     {
-        if found == work.pass.held_word() || found == work.live {
+        if found == work.pass.held_word() || found == work.replacement.live {
             At::Replace
         } else {
             At::again(work)
@@ -146,11 +146,11 @@ impl At {
     pub fn replaced(work: &mut Work, found: u64) -> At
         requires { IsTrue (is_held work.old.pass.at) }
         ensures rest { at_rest work.new result
-            ≡ after_replace (plan work.old) (more work.old) (held_of work.old.pass) work.old.pass.scan.table work.old.block (area_of work.old) work.old.left work.old.live found }
+            ≡ after_replace (plan work.old) (more work.old) (held_of work.old.pass) work.old.pass.scan.table work.old.replacement.block (area_of work.old) work.old.replacement.left work.old.replacement.live found }
         ensures fits { AtFits work.new result }
         ensures plan { plan work.new ≡ plan work.old }
     {
-        if found == work.live {
+        if found == work.replacement.live {
             At::Updated
         } else {
             At::again(work)

@@ -2,18 +2,15 @@
 
 ghost use Rattle.std.specs.Prelude.{◌≡◌};
 ghost use Rattle.op_update.specs.AtFits.{AtFits, AtFits-prop};
-ghost use Rattle.op_update.specs.Text.{refused};
 
 use crate::at::At;
 use crate::end::{UpdateEnd, UpdateOutcome};
-use crate::work::Work;
-use block_taking::{Area, TakeOp, TakeOutcome};
-use bucket_group::fingerprint;
-use kv_block::{Key, Value, write_block};
+use block_taking::Area;
+use kv_block::{Key, Value};
 use node_words::Geometry;
-use scan_pass::{Held, Pass, PassMode};
 use verb_log::Verb;
 use verbs::Machine;
+use work_area::Work;
 
 /// The update of a key. `start` begins it; it then does the verb that `next` tells and takes its answer by `feed`, until
 /// `next` is None.
@@ -24,28 +21,15 @@ pub struct UpdateOp {
     ghost fits: { AtFits work at } by { AtFits-prop work at },
 }
 
-// What an update answers where its taking has ended with no room.
-fn refused(outcome: TakeOutcome) -> UpdateOutcome
-    ensures { result ≡ refused outcome }
-{
-    match outcome {
-        TakeOutcome::Taken { .. } => UpdateOutcome::Again,
-        TakeOutcome::NoBlock { next, need } => UpdateOutcome::NoBlock { next, need },
-        TakeOutcome::Spent => UpdateOutcome::Again,
-    }
-}
-
 impl UpdateOp {
-    ghost use Rattle.std.specs.Prelude.{◌≡◌, ◌≤◌, ◌<◌, ◌-◌, ◌^◌, Some, IsSome, IsTrue, option_map};
+    ghost use Rattle.std.specs.Prelude.{◌≡◌, ◌≤◌, ◌<◌, ◌-◌, ◌^◌, Some, IsSome, option_map};
     ghost use Rattle.verbs.specs.Programs.{next_act, outcome_of, Within};
-    ghost use Rattle.scan_pass.specs.Ends.{held_of, is_held};
     ghost use Rattle.op_update.specs.declared.end.UpdateEnd.{UpdateEnd};
-    ghost use Rattle.op_update.specs.Text.{update, new_word};
+    ghost use Rattle.op_update.specs.Text.{update};
     ghost use Rattle.op_update.specs.Bound.{update_verbs};
     ghost use Rattle.op_update.specs.Law.{plan_of, IsSafeUpdate};
-    ghost use Rattle.op_update.specs.declared.at.At.TheVariants.{NoBlock};
     ghost use Rattle.op_update.specs.Ends.{has_ended};
-    ghost use Rattle.op_update.specs.Rest.{plan, area_of, at_rest, update_rest};
+    ghost use Rattle.op_update.specs.Rest.{plan, area_of, update_rest};
 
     /// An update of the key with this hash to the value, from the table that the cache names, or from the directory where it
     /// names none, by a client with this number and area, which may lose `tries_left` swaps, 1 or more. It means the text of
@@ -72,29 +56,22 @@ impl UpdateOp {
         ensures waits { IsSome (next_act (update_rest result)) }
         ensures safe { IsSafeUpdate geometry client (record { key = key.now; value = value.now }) hash tries_left area entry (update_rest result) }
     {
-        let block = write_block(key, value);
-        UpdateOp {
-            work: Work {
-                pass: Pass::start(geometry, entry, key, hash, PassMode::Look),
-                print: fingerprint(hash),
-                take: TakeOp::ready(geometry, client, block, area),
-                tries: tries_left,
-                left: tries_left,
-                rounds: tries_left - 1,
-                kept: None,
-                block: 0,
-                live: 0,
-            },
-            at: At::Looking,
-        }
+        let mut work = Work::idle(geometry, client, key);
+        let at = At::begin(
+            &mut work, geometry, client, hash, key, value, entry, area, tries_left,
+        );
+        UpdateOp { work, at }
     }
 
     /// How many counted swaps were lost.
     pub fn lost(&self) -> u32
-        ensures lost { result ≡ self.now.work.tries - self.now.work.left }
+        ensures lost { result ≡ self.now.work.replacement.tries - self.now.work.replacement.left }
         ensures ended { (e : UpdateEnd) → outcome_of (update_rest self.now) ≡ Some e → e.lost ≡ result }
     {
-        self.work.tries.saturating_sub(self.work.left)
+        self.work
+            .replacement
+            .tries
+            .saturating_sub(self.work.replacement.left)
     }
 
     /// The table where the last look ended; before that, the one that it searched last.
@@ -129,52 +106,7 @@ impl UpdateOp {
     pub fn has_ended(&self) -> bool
         ensures { result ≡ has_ended self.now.at }
     {
-        matches!(self.at, At::Updated | At::Missing | At::Again | At::NoBlock)
-    }
-
-    // The live word of the new block.
-    #[tactic(auto, unfolding(crate::specs::Text::new_word, slot_word::specs::Slots::slot_word, pass_text::specs::Words::address_of))]
-    fn new_word(&self) -> u64
-        ensures { result ≡ new_word (plan self.now.work) self.now.work.block }
-    {
-        (u64::from(self.work.print) << 56)
-            + (u64::from(self.work.take.need()) << 48)
-            + self.work.block % (1 << 46)
-    }
-
-    // The word that held the key.
-    fn held(&self) -> Held
-        requires { IsTrue (is_held self.now.work.pass.at) }
-        ensures { result ≡ held_of self.now.work.pass }
-    {
-        Held {
-            at: self.work.pass.held_at(),
-            word: self.work.pass.held_word(),
-            value: self.work.pass.held_value(),
-        }
-    }
-
-    // What the update tells where its taking has ended with no room.
-    #[tactic(auto, using(crate::proofs::Looking::fulls))]
-    fn no_block(&self) -> Option<UpdateEnd>
-        ensures { result ≡ outcome_of (at_rest self.now.work NoBlock) }
-    {
-        match self.work.take.outcome() {
-            Some(end) => Some(self.ended(refused(end.outcome))),
-            None => None,
-        }
-    }
-
-    // What the update tells that has ended so.
-    fn ended(&self, outcome: UpdateOutcome) -> UpdateEnd
-        ensures { result ≡ record { outcome = outcome; table = self.now.work.pass.scan.table; area = area_of self.now.work; lost = self.now.work.tries - self.now.work.left } }
-    {
-        UpdateEnd {
-            outcome,
-            table: self.work.pass.table(),
-            area: self.work.take.area(),
-            lost: self.work.tries.saturating_sub(self.work.left),
-        }
+        self.at.has_ended()
     }
 }
 
@@ -191,32 +123,12 @@ impl Machine for UpdateOp {
     ghost rest = { update_rest };
 
     #[inline(always)]
-    #[tactic(auto, using(crate::proofs::Looking::updates))]
     fn next(&self) -> Option<Verb> {
-        match self.at {
-            At::Looking => self.work.pass.next(),
-            At::Taking => self.work.take.next(),
-            At::Settle => Some(Verb::Swap {
-                at: self.work.pass.held_at(),
-                expected: self.work.pass.held_word(),
-                word: self.work.live,
-            }),
-            At::Replace => Some(Verb::Swap {
-                at: self.work.pass.held_at(),
-                expected: self.work.live,
-                word: self.new_word(),
-            }),
-            At::Updated | At::Missing | At::Again | At::NoBlock => None,
-        }
+        self.at.next(&self.work)
     }
 
-    #[tactic(auto, using(crate::proofs::Looking::updates))]
     fn block(&self) -> Option<u64> {
-        match self.at {
-            At::Looking => self.work.pass.block(),
-            At::Taking => self.work.take.block(),
-            _ => None,
-        }
+        self.at.block(&self.work)
     }
 
     #[inline(always)]
@@ -224,29 +136,15 @@ impl Machine for UpdateOp {
         self.at = At::fed(&mut self.work, self.at, word);
     }
 
-    #[tactic(auto, using(crate::proofs::Looking::updates))]
     fn asks(&self) -> Option<Key> {
-        match self.at {
-            At::Looking => self.work.pass.asks(),
-            At::Taking => self.work.take.asks(),
-            _ => None,
-        }
+        self.at.asks(&self.work)
     }
 
-    #[tactic(auto, using(crate::proofs::Looking::updates))]
-    fn told(&mut self, hash: u64) {}
+    fn told(&mut self, hash: u64) {
+        self.at = self.at.told(&self.work, hash);
+    }
 
-    #[tactic(auto, using(crate::proofs::Looking::updates))]
     fn outcome(&self) -> Option<UpdateEnd> {
-        match self.at {
-            At::Updated => Some(self.ended(UpdateOutcome::Updated {
-                old: self.held(),
-                at: self.work.block,
-            })),
-            At::Missing => Some(self.ended(UpdateOutcome::Missing)),
-            At::Again => Some(self.ended(UpdateOutcome::Again)),
-            At::NoBlock => self.no_block(),
-            _ => None,
-        }
+        self.at.end(&self.work)
     }
 }

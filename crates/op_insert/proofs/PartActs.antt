@@ -7,7 +7,7 @@ use Rattle.scan_pass.specs.declared.pass.Pass.{Pass}
 use Rattle.scan_pass.specs.Rest.{pass_rest}
 use Rattle.block_taking.specs.declared.take_op.TakeOp.{TakeOp}
 use Rattle.block_taking.specs.Rest.{take_rest}
-use Rattle.op_insert.specs.declared.work.Work.{Work}
+use Rattle.work_area.specs.declared.work.Work.{Work}
 use Rattle.op_insert.specs.declared.at.At.{At}
 use Rattle.op_insert.specs.declared.at.At.TheVariants.{Look, Take, Sweep}
 use Rattle.op_insert.specs.Text.{after_look, after_sweep, after_taking}
