@@ -3,27 +3,24 @@ use Rattle.std.specs.Prelude.{◌≡◌, true, false, not, IsSome, is_some, refl
 use Rattle.std.proofs.Common.{◌∙◌}
 use Rattle.verbs.specs.Programs.{Prog, ret, ask, next_act, bind, mapped, outcome_of}
 use Rattle.pass_text.specs.declared.job.Job.{Job}
+use Rattle.scan_pass.specs.declared.pass.Pass.{Pass}
 use Rattle.scan_pass.specs.declared.scan.Scan.{Scan}
 use Rattle.scan_pass.specs.declared.at.At.{At as PassAt}
 use Rattle.scan_pass.specs.declared.at.At.TheVariants as pass
 use Rattle.scan_pass.specs.Rest.{at_rest as pass_at, pass_rest}
 use Rattle.scan_pass.specs.Ends.{has_ended as pass_ended}
-use Rattle.op_search.specs.declared.search.SearchOp.{SearchOp}
 use Rattle.op_search.specs.Text.{found}
-use Rattle.op_search.specs.Rest.{search_rest}
-use Rattle.op_delete.specs.declared.work.Work.{Work as DeleteWork}
+use Rattle.work_area.specs.declared.work.Work.{Work}
 use Rattle.op_delete.specs.declared.at.At.{At as DeleteAt}
 use Rattle.op_delete.specs.declared.at.At.TheVariants as delete
 use Rattle.op_delete.specs.AtFits.{AtFits as DeleteFits}
 use Rattle.op_delete.specs.Ends.{has_ended as delete_ended}
 use Rattle.op_delete.specs.Rest.{at_rest as delete_at}
-use Rattle.op_update.specs.declared.work.Work.{Work as UpdateWork}
 use Rattle.op_update.specs.declared.at.At.{At as UpdateAt}
 use Rattle.op_update.specs.declared.at.At.TheVariants as update
 use Rattle.op_update.specs.AtFits.{AtFits as UpdateFits}
 use Rattle.op_update.specs.Ends.{has_ended as update_ended}
 use Rattle.op_update.specs.Rest.{at_rest as update_at}
-use Rattle.op_insert.specs.declared.work.Work.{Work as InsertWork}
 use Rattle.op_insert.specs.declared.at.At.{At as InsertAt}
 use Rattle.op_insert.specs.declared.at.At.TheVariants as insert
 use Rattle.op_insert.specs.AtFits.{AtFits as InsertFits}
@@ -50,8 +47,8 @@ unfolding mapped
 mapped-acts f (ret a) = refl
 mapped-acts f (ask act k) = refl
 
-pub search-acts : (p : SearchOp) → not (pass_ended p.pass.at) ≡ is_some (next_act (search_rest p))
-search-acts p = pass-acts p.pass.task.job p.pass.scan p.pass.at ∙ mapped-acts found (pass_rest p.pass)
+pub search-acts : (p : Pass) → not (pass_ended p.at) ≡ is_some (next_act (mapped found (pass_rest p)))
+search-acts p = pass-acts p.task.job p.scan p.at ∙ mapped-acts found (pass_rest p)
 
 -- one program and then another has an act where the first has one
 bind-acts : {A B : Type 0} (p : Prog A) (f : A → Prog B) → IsSome (next_act p) → true ≡ is_some (next_act (bind p f))
@@ -63,7 +60,7 @@ ret-ends : {A B : Type 0} (p : Prog A) (f : A → B) → IsSome (outcome_of p) �
 ret-ends (ret a) f h = refl
 ret-ends (ask act k) f h = absurd (cc)
 
-pub delete-acts : (w : DeleteWork) (at : DeleteAt) → DeleteFits w at → not (delete_ended at) ≡ is_some (next_act (delete_at w at))
+pub delete-acts : (w : Work) (at : DeleteAt) → DeleteFits w at → not (delete_ended at) ≡ is_some (next_act (delete_at w at))
 delete-acts w delete.Looking h = bind-acts (pass_rest w.pass) _ h.0
 delete-acts w delete.Settle h = refl
 delete-acts w delete.Remove h = refl
@@ -71,7 +68,7 @@ delete-acts w delete.Deleted h = refl
 delete-acts w delete.Missing h = refl
 delete-acts w delete.Again h = refl
 
-pub update-acts : (w : UpdateWork) (at : UpdateAt) → UpdateFits w at → not (update_ended at) ≡ is_some (next_act (update_at w at))
+pub update-acts : (w : Work) (at : UpdateAt) → UpdateFits w at → not (update_ended at) ≡ is_some (next_act (update_at w at))
 update-acts w update.Looking h = bind-acts (pass_rest w.pass) _ h
 update-acts w update.Taking h = bind-acts _ _ h.0
 update-acts w update.Settle h = refl
@@ -86,7 +83,7 @@ bind-acts_twice : {A B C : Type 0} (p : Prog A) (f : A → Prog B) (g : B → Pr
 bind-acts_twice (ret a) f g h = absurd (cc)
 bind-acts_twice (ask act k) f g h = refl
 
-pub insert-acts : (w : InsertWork) (at : InsertAt) → InsertFits w at → not (insert_ended at) ≡ is_some (next_act (insert_at w at))
+pub insert-acts : (w : Work) (at : InsertAt) → InsertFits w at → not (insert_ended at) ≡ is_some (next_act (insert_at w at))
 insert-acts w insert.Look h = bind-acts_twice (pass_rest w.pass) _ _ h
 insert-acts w insert.ParentHeader h = refl
 insert-acts w insert.Begin h = refl

@@ -1,36 +1,37 @@
 -- An operation inside a call: its acts are the call's, and so is the answer that it ends with.
 use Rattle.std.specs.Prelude.{◌≡◌, ℕ, true, not, ◌||◌, Option, Some, None, IsSome, is_some, is_none, refl}
 use Rattle.std.proofs.Common.{sym, ◌∙◌, ap, subst}
-use Rattle.verbs.specs.Programs.{Act, do_verb, ask_hash, Prog, ret, ask, next_act, next_verb, block_of, asked, verb_of, block_in, key_of, after, outcome_of, bind, again, done, goes_on, answer_of}
+use Rattle.verbs.specs.Programs.{Act, do_verb, ask_hash, Prog, ret, ask, next_act, next_verb, block_of, asked, verb_of, block_in, key_of, after, outcome_of, bind, mapped, again, done, goes_on, answer_of}
 use Rattle.verbs.proofs.Progs.{next_act-bind, after-bind, ret-by-outcome, asks-by-outcome}
 use Rattle.verbs.proofs.Insides.{acts_unanswered}
 use Rattle.scan_pass.specs.Rest.{pass_rest}
 use Rattle.op_search.specs.declared.end.SearchOutcome.{SearchOutcome}
 use Rattle.op_search.specs.declared.end.SearchOutcome.TheVariants as searched
-use Rattle.op_search.specs.Rest.{search_rest}
+use Rattle.op_search.specs.Text.{found}
 use Rattle.op_delete.specs.declared.end.DeleteOutcome.{DeleteOutcome}
 use Rattle.op_delete.specs.declared.end.DeleteOutcome.TheVariants as deleted
-use Rattle.op_delete.specs.Rest.{delete_rest}
+use Rattle.op_delete.specs.Rest.{at_rest as delete_at}
 use Rattle.op_update.specs.declared.end.UpdateEnd.{UpdateEnd}
 use Rattle.op_update.specs.declared.end.UpdateOutcome.{UpdateOutcome}
 use Rattle.op_update.specs.declared.end.UpdateOutcome.TheVariants as updated
-use Rattle.op_update.specs.Rest.{update_rest}
+use Rattle.op_update.specs.Rest.{at_rest as update_at}
 use Rattle.op_insert.specs.declared.end.InsertEnd.{InsertEnd}
 use Rattle.op_insert.specs.declared.end.InsertOutcome.{InsertOutcome}
 use Rattle.op_insert.specs.declared.end.InsertOutcome.TheVariants as inserted
-use Rattle.op_insert.specs.InsertRest.{insert_rest}
+use Rattle.op_insert.specs.Rest.{at_rest as insert_at}
 use Rattle.split_text.specs.declared.resized.ResizeOutcome.{ResizeOutcome}
 use Rattle.split_text.specs.declared.resized.ResizeOutcome.TheVariants as split
 use Rattle.remote_resize.specs.ResizeOpRest.{resize_rest}
 use Rattle.call_texts.specs.State.{CallEnd}
 use Rattle.call_texts.specs.Text.{part_of, after_search, after_delete, after_update, after_insert, after_split, after_own}
 use Rattle.call_machine.specs.declared.task.Task.{Task}
-use Rattle.call_machine.specs.declared.op.Op.{Op}
-use Rattle.call_machine.specs.declared.op.Op.TheVariants as op
+use Rattle.call_machine.specs.declared.machines.Machines.{Machines}
+use Rattle.call_machine.specs.declared.at.At.{At}
+use Rattle.call_machine.specs.declared.at.At.TheVariants as op
 use Rattle.call_machine.specs.Tasks.{caller_in, pair_in, inserting_in, insert_end_in}
 use Rattle.call_machine.specs.Rest.{Left, rest_of, act_of, on_search, on_delete, on_update, on_insert, on_room, on_walk, on_split}
 use Rattle.call_machine.specs.Spare.{EndsBy, NeedsNone, InsertDone, Refuses, RoomDone, Answers, SplitDone}
-use Rattle.call_machine.specs.Fits.{HasSpare, Settled, CallFits}
+use Rattle.call_machine.specs.Fits.{Stands, HasSpare, Settled, CallFits}
 use Rattle.call_machine.specs.Follows.{Follows}
 use Rattle.call_machine.proofs.Ways.{outcomes-fed, outcomes-told}
 
@@ -109,67 +110,67 @@ split-ends t table left split.Locked h = absurd h
 split-ends t table left (split.Again ticket) h = refl
 split-ends t table left (split.FullWords next need) h = refl
 
-act-told : (t : Task) (o : Op) → Settled o → next_act (rest_of t o) ≡ act_of o
-act-told t (op.Search p) h = act-in (λ e. Unit {0}) (on_search t) (λ e x. search-ends t e.table e.outcome) (search_rest p) (anyhow (search_rest p))
-act-told t (op.Delete p) h = act-in (λ e. Unit {0}) (on_delete t) (λ e x. delete-ends t e.table e.outcome) (delete_rest p) (anyhow (delete_rest p))
-act-told t (op.Update p) h = act-in (λ e. Unit {0}) (on_update t) (λ e x. update-ends t e e.outcome) (update_rest p) (anyhow (update_rest p))
-act-told t (op.Insert p) h = act-in InsertDone (on_insert t) (λ e x. insert-ends t e e.outcome x) (insert_rest p) h
-act-told t (op.Room p) h = act-in RoomDone (on_room t) (λ e x. room-ends t e.left e.outcome x) (resize_rest p) h
-act-told t (op.Walk p) h = next_act-bind (pass_rest p) (on_walk t) h
-act-told t (op.Split p) h = act-in SplitDone (on_split t (Some t.table)) (λ e x. split-ends t (Some t.table) e.left e.outcome x) (resize_rest p) h
-act-told t (op.Resume p) h = act-in SplitDone (on_split t None) (λ e x. split-ends t None e.left e.outcome x) (resize_rest p) h
-act-told t op.Full h = refl
+act-told : (t : Task) (m : Machines) (o : At) → Settled m o → next_act (rest_of t m o) ≡ act_of m o
+act-told t m op.Search h = act-in (λ e. Unit {0}) (on_search t) (λ e x. search-ends t e.table e.outcome) (mapped found (pass_rest m.work.pass)) (anyhow (mapped found (pass_rest m.work.pass)))
+act-told t m (op.Delete a) h = act-in (λ e. Unit {0}) (on_delete t) (λ e x. delete-ends t e.table e.outcome) (delete_at m.work a) (anyhow (delete_at m.work a))
+act-told t m (op.Update a) h = act-in (λ e. Unit {0}) (on_update t) (λ e x. update-ends t e e.outcome) (update_at m.work a) (anyhow (update_at m.work a))
+act-told t m (op.Insert a) h = act-in InsertDone (on_insert t) (λ e x. insert-ends t e e.outcome x) (insert_at m.work a) h
+act-told t m op.Room h = act-in RoomDone (on_room t) (λ e x. room-ends t e.left e.outcome x) (resize_rest m.split) h
+act-told t m op.Walk h = next_act-bind (pass_rest m.work.pass) (on_walk t) h
+act-told t m op.Split h = act-in SplitDone (on_split t (Some t.table)) (λ e x. split-ends t (Some t.table) e.left e.outcome x) (resize_rest m.split) h
+act-told t m op.Resume h = act-in SplitDone (on_split t None) (λ e x. split-ends t None e.left e.outcome x) (resize_rest m.split) h
+act-told t m op.Full h = refl
 
 -- a call that has been settled stays
-stays : (t : Task) (o : Op) → Settled o → goes_on part_of (rest_of t o) ≡ rest_of t o
-stays t (op.Search p) h = stays-in (λ e. Unit {0}) (on_search t) (λ e x. search-ends t e.table e.outcome) (search_rest p) (anyhow (search_rest p))
-stays t (op.Delete p) h = stays-in (λ e. Unit {0}) (on_delete t) (λ e x. delete-ends t e.table e.outcome) (delete_rest p) (anyhow (delete_rest p))
-stays t (op.Update p) h = stays-in (λ e. Unit {0}) (on_update t) (λ e x. update-ends t e e.outcome) (update_rest p) (anyhow (update_rest p))
-stays t (op.Insert p) h = stays-in InsertDone (on_insert t) (λ e x. insert-ends t e e.outcome x) (insert_rest p) h
-stays t (op.Room p) h = stays-in RoomDone (on_room t) (λ e x. room-ends t e.left e.outcome x) (resize_rest p) h
-stays t (op.Walk p) h = acts-stay (rest_of t (op.Walk p)) (subst (λ a. IsSome a) (sym (act-told t (op.Walk p) h)) h)
-stays t (op.Split p) h = stays-in SplitDone (on_split t (Some t.table)) (λ e x. split-ends t (Some t.table) e.left e.outcome x) (resize_rest p) h
-stays t (op.Resume p) h = stays-in SplitDone (on_split t None) (λ e x. split-ends t None e.left e.outcome x) (resize_rest p) h
-stays t op.Full h = refl
+stays : (t : Task) (m : Machines) (o : At) → Settled m o → goes_on part_of (rest_of t m o) ≡ rest_of t m o
+stays t m op.Search h = stays-in (λ e. Unit {0}) (on_search t) (λ e x. search-ends t e.table e.outcome) (mapped found (pass_rest m.work.pass)) (anyhow (mapped found (pass_rest m.work.pass)))
+stays t m (op.Delete a) h = stays-in (λ e. Unit {0}) (on_delete t) (λ e x. delete-ends t e.table e.outcome) (delete_at m.work a) (anyhow (delete_at m.work a))
+stays t m (op.Update a) h = stays-in (λ e. Unit {0}) (on_update t) (λ e x. update-ends t e e.outcome) (update_at m.work a) (anyhow (update_at m.work a))
+stays t m (op.Insert a) h = stays-in InsertDone (on_insert t) (λ e x. insert-ends t e e.outcome x) (insert_at m.work a) h
+stays t m op.Room h = stays-in RoomDone (on_room t) (λ e x. room-ends t e.left e.outcome x) (resize_rest m.split) h
+stays t m op.Walk h = acts-stay (rest_of t m op.Walk) (subst (λ a. IsSome a) (sym (act-told t m op.Walk h)) h)
+stays t m op.Split h = stays-in SplitDone (on_split t (Some t.table)) (λ e x. split-ends t (Some t.table) e.left e.outcome x) (resize_rest m.split) h
+stays t m op.Resume h = stays-in SplitDone (on_split t None) (λ e x. split-ends t None e.left e.outcome x) (resize_rest m.split) h
+stays t m op.Full h = refl
 
 -- one with no act has answered
-answers : (t : Task) (o : Op) → Settled o → act_of o ≡ None → IsSome (answer_of (rest_of t o))
-answers t (op.Search p) h e = answers-in (λ e. Unit {0}) (on_search t) (λ e x. search-ends t e.table e.outcome) (search_rest p) (anyhow (search_rest p)) e
-answers t (op.Delete p) h e = answers-in (λ e. Unit {0}) (on_delete t) (λ e x. delete-ends t e.table e.outcome) (delete_rest p) (anyhow (delete_rest p)) e
-answers t (op.Update p) h e = answers-in (λ e. Unit {0}) (on_update t) (λ e x. update-ends t e e.outcome) (update_rest p) (anyhow (update_rest p)) e
-answers t (op.Insert p) h e = answers-in InsertDone (on_insert t) (λ e x. insert-ends t e e.outcome x) (insert_rest p) h e
-answers t (op.Room p) h e = answers-in RoomDone (on_room t) (λ e x. room-ends t e.left e.outcome x) (resize_rest p) h e
-answers t (op.Walk p) h e = absurd (cc)
-answers t (op.Split p) h e = answers-in SplitDone (on_split t (Some t.table)) (λ e x. split-ends t (Some t.table) e.left e.outcome x) (resize_rest p) h e
-answers t (op.Resume p) h e = answers-in SplitDone (on_split t None) (λ e x. split-ends t None e.left e.outcome x) (resize_rest p) h e
-answers t op.Full h e = refl
+answers : (t : Task) (m : Machines) (o : At) → Settled m o → act_of m o ≡ None → IsSome (answer_of (rest_of t m o))
+answers t m op.Search h e = answers-in (λ e. Unit {0}) (on_search t) (λ e x. search-ends t e.table e.outcome) (mapped found (pass_rest m.work.pass)) (anyhow (mapped found (pass_rest m.work.pass))) e
+answers t m (op.Delete a) h e = answers-in (λ e. Unit {0}) (on_delete t) (λ e x. delete-ends t e.table e.outcome) (delete_at m.work a) (anyhow (delete_at m.work a)) e
+answers t m (op.Update a) h e = answers-in (λ e. Unit {0}) (on_update t) (λ e x. update-ends t e e.outcome) (update_at m.work a) (anyhow (update_at m.work a)) e
+answers t m (op.Insert a) h e = answers-in InsertDone (on_insert t) (λ e x. insert-ends t e e.outcome x) (insert_at m.work a) h e
+answers t m op.Room h e = answers-in RoomDone (on_room t) (λ e x. room-ends t e.left e.outcome x) (resize_rest m.split) h e
+answers t m op.Walk h e = absurd (cc)
+answers t m op.Split h e = answers-in SplitDone (on_split t (Some t.table)) (λ e x. split-ends t (Some t.table) e.left e.outcome x) (resize_rest m.split) h e
+answers t m op.Resume h e = answers-in SplitDone (on_split t None) (λ e x. split-ends t None e.left e.outcome x) (resize_rest m.split) h e
+answers t m op.Full h e = refl
 
 -- What a call tells of its operation.
-pub verb-told : (t : Task) (o : Op) → CallFits t o → verb_of (act_of o) ≡ next_verb (rest_of t o)
-verb-told t o h = ap verb_of (sym (act-told t o h.1))
+pub verb-told : (t : Task) (m : Machines) (o : At) → CallFits t m o → verb_of (act_of m o) ≡ next_verb (rest_of t m o)
+verb-told t m o h = ap verb_of (sym (act-told t m o h.2))
 
-pub block-told : (t : Task) (o : Op) → CallFits t o → block_in (act_of o) ≡ block_of (rest_of t o)
-block-told t o h = ap block_in (sym (act-told t o h.1))
+pub block-told : (t : Task) (m : Machines) (o : At) → CallFits t m o → block_in (act_of m o) ≡ block_of (rest_of t m o)
+block-told t m o h = ap block_in (sym (act-told t m o h.2))
 
-pub key-told : (t : Task) (o : Op) → CallFits t o → key_of (act_of o) ≡ asked (rest_of t o)
-key-told t o h = ap key_of (sym (act-told t o h.1))
+pub key-told : (t : Task) (m : Machines) (o : At) → CallFits t m o → key_of (act_of m o) ≡ asked (rest_of t m o)
+key-told t m o h = ap key_of (sym (act-told t m o h.2))
 
-pub none-told : (t : Task) (o : Op) → CallFits t o → not (is_some (act_of o)) ≡ is_none (next_act (rest_of t o))
-none-told t o h = by (act_of o) ∙ ap is_none (sym (act-told t o h.1))
+pub none-told : (t : Task) (m : Machines) (o : At) → CallFits t m o → not (is_some (act_of m o)) ≡ is_none (next_act (rest_of t m o))
+none-told t m o h = by (act_of m o) ∙ ap is_none (sym (act-told t m o h.2))
   where
     by : (a : Option Act) → not (is_some a) ≡ is_none a
     by None = refl
     by (Some act) = refl
 
-pub answered-told : (t : Task) (o : Op) → CallFits t o → not (is_some (act_of o)) ≡ is_some (answer_of (rest_of t o))
-answered-told t o h = by (act_of o) refl
+pub answered-told : (t : Task) (m : Machines) (o : At) → CallFits t m o → not (is_some (act_of m o)) ≡ is_some (answer_of (rest_of t m o))
+answered-told t m o h = by (act_of m o) refl
   where
     some : (a : Option Act) (act : Act) → a ≡ Some act → IsSome a
     some a act e = subst (λ v. IsSome v) (sym e) refl
 
-    by : (a : Option Act) → act_of o ≡ a → not (is_some a) ≡ is_some (answer_of (rest_of t o))
-    by None e = sym (answers t o h.1 e)
-    by (Some act) e = sym (ap is_some (acts_unanswered (rest_of t o) (subst (λ v. IsSome v) (sym (act-told t o h.1)) (some (act_of o) act e))))
+    by : (a : Option Act) → act_of m o ≡ a → not (is_some a) ≡ is_some (answer_of (rest_of t m o))
+    by None e = sym (answers t m o h.2 e)
+    by (Some act) e = sym (ap is_some (acts_unanswered (rest_of t m o) (subst (λ v. IsSome v) (sym (act-told t m o h.2)) (some (act_of m o) act e))))
 
 pub ruleset seen = (verb-told, block-told, key-told, none-told, answered-told)
 
@@ -201,42 +202,42 @@ key-fed p q f answer h e = fed-on p q f answer (key-some p h) e
 pub ruleset fed_ons = (verb-fed, key-fed, outcomes-fed)
 
 -- What follows an operation.
-acts-settled : (o : Op) → IsSome (act_of o) → Settled o
-acts-settled (op.Search p) h = tt
-acts-settled (op.Delete p) h = tt
-acts-settled (op.Update p) h = tt
-acts-settled (op.Insert p) h = ends-acting InsertDone (insert_rest p) h
-acts-settled (op.Room p) h = ends-acting RoomDone (resize_rest p) h
-acts-settled (op.Walk p) h = h
-acts-settled (op.Split p) h = ends-acting SplitDone (resize_rest p) h
-acts-settled (op.Resume p) h = ends-acting SplitDone (resize_rest p) h
-acts-settled op.Full h = tt
+acts-settled : (m : Machines) (o : At) → IsSome (act_of m o) → Settled m o
+acts-settled m op.Search h = tt
+acts-settled m (op.Delete a) h = tt
+acts-settled m (op.Update a) h = tt
+acts-settled m (op.Insert a) h = ends-acting InsertDone (insert_at m.work a) h
+acts-settled m op.Room h = ends-acting RoomDone (resize_rest m.split) h
+acts-settled m op.Walk h = h
+acts-settled m op.Split h = ends-acting SplitDone (resize_rest m.split) h
+acts-settled m op.Resume h = ends-acting SplitDone (resize_rest m.split) h
+acts-settled m op.Full h = tt
 
-pub acts_settle : (o : Op) → is_some (act_of o) ≡ true → Settled o
-acts_settle o h = acts-settled o h
+pub acts_settle : (m : Machines) (o : At) → is_some (act_of m o) ≡ true → Settled m o
+acts_settle m o h = acts-settled m o h
 
-pub settled-fits : (t : Task) (o : Op) → HasSpare t o → Settled o → CallFits t o
-settled-fits t o s h = (s, h)
+pub settled-fits : (t : Task) (m : Machines) (o : At) → Stands m o → HasSpare t m o → Settled m o → CallFits t m o
+settled-fits t m o k s h = (k, s, h)
 
-pub settled-onward : (t : Task) (o : Op) → Settled o → rest_of t o ≡ goes_on part_of (rest_of t o)
-settled-onward t o h = sym (stays t o h)
+pub settled-onward : (t : Task) (m : Machines) (o : At) → Settled m o → rest_of t m o ≡ goes_on part_of (rest_of t m o)
+settled-onward t m o h = sym (stays t m o h)
 
-pub none-onward : (t u : Task) (o : Op) → Follows (Settled o) (rest_of t o) t u None → rest_of u o ≡ goes_on part_of (rest_of t o)
-none-onward t u o h = ap (λ v. rest_of v o) h.1 ∙ sym (stays t o h.0)
+pub none-onward : (t : Task) (m : Machines) (u : Task) (n : Machines) (o : At) → Follows (Settled m o) (rest_of t m o) t m u n None → rest_of u n o ≡ goes_on part_of (rest_of t m o)
+none-onward t m u n o h = (λ i. rest_of (h.1 i) (h.2 i) o) ∙ sym (stays t m o h.0)
 
-pub none-fits : (t u : Task) (o : Op) → HasSpare t o → Follows (Settled o) (rest_of t o) t u None → CallFits u o
-none-fits t u o s h = (subst (λ v. HasSpare v o) (sym h.1) s, h.0)
+pub none-fits : (t : Task) (m : Machines) (u : Task) (n : Machines) (o : At) → Stands m o → HasSpare t m o → Follows (Settled m o) (rest_of t m o) t m u n None → CallFits u n o
+none-fits t m u n o k s h = (subst (λ y. Stands y o) (sym h.2) k, subst (λ v. HasSpare v n o) (sym h.1) (subst (λ y. HasSpare t y o) (sym h.2) s), subst (λ y. Settled y o) (sym h.2) h.0)
 
-pub none-caller : (t u : Task) (o : Op) → Follows (Settled o) (rest_of t o) t u None → caller_in u ≡ caller_in t
-none-caller t u o h = ap caller_in h.1
+pub none-caller : (t : Task) (m : Machines) (u : Task) (n : Machines) (o : At) → Follows (Settled m o) (rest_of t m o) t m u n None → caller_in u ≡ caller_in t
+none-caller t m u n o h = ap caller_in h.1
 
 -- it has ended so
-pub ends-follow : {A : Type 0} (P : A → Type 0) (f : A → Left) (p : Prog A) (e : A) (t u : Task) (r : Option Op) → outcome_of p ≡ Some e → Follows (P e) (f e) t u r → Follows (EndsBy P p) (bind p f) t u r
-ends-follow P f p e t u r h k = subst (λ q. Follows (EndsBy P q) (bind q f) t u r) (sym (ret-by-outcome p e h)) k
+pub ends-follow : {A : Type 0} (P : A → Type 0) (f : A → Left) (p : Prog A) (e : A) (t : Task) (m : Machines) (u : Task) (n : Machines) (r : Option At) → outcome_of p ≡ Some e → Follows (P e) (f e) t m u n r → Follows (EndsBy P p) (bind p f) t m u n r
+ends-follow P f p e t m u n r h k = subst (λ q. Follows (EndsBy P q) (bind q f) t m u n r) (sym (ret-by-outcome p e h)) k
 
 -- it has an act
-pub acts-follow : {A : Type 0} (P : A → Type 0) (f : A → Left) (p : Prog A) (t : Task) → outcome_of p ≡ None → Follows (EndsBy P p) (bind p f) t t None
-acts-follow P f p t h = (ends-acting P p (asks-by-outcome p h), refl)
+pub acts-follow : {A : Type 0} (P : A → Type 0) (f : A → Left) (p : Prog A) (t : Task) (m : Machines) → outcome_of p ≡ None → Follows (EndsBy P p) (bind p f) t m t m None
+acts-follow P f p t m h = (ends-acting P p (asks-by-outcome p h), refl, refl)
 
 -- a walk has ended so
 pub walked-on : {A : Type 0} (f : A → Left) (p : Prog A) (e : A) (q : Left) → outcome_of p ≡ Some e → q ≡ goes_on part_of (f e) → q ≡ goes_on part_of (bind p f)

@@ -3,87 +3,93 @@ ghost use Rattle.std.specs.Prelude.{◌≡◌, IsTrue, is_some};
 ghost use Rattle.verbs.specs.Programs.{next_act, verb_of, block_in, key_of};
 ghost use Rattle.remote_resize.specs.ResizeOpRest.{resize_rest};
 ghost use Rattle.call_machine.specs.Rest.{act_of};
-ghost use Rattle.call_machine.specs.Fits.{Settled};
+ghost use Rattle.call_machine.specs.Fits.{Stands, Settled};
 
-use crate::op::Op;
+use crate::at::At;
+use crate::machines::Machines;
 use kv_block::Key;
 use remote_resize::ResizeOp;
 use verb_log::Verb;
 use verbs::Machine;
 
-impl Op {
+impl At {
     /// The verb to do now.
     #[inline(always)]
-    pub fn next(&self) -> Option<Verb>
-        ensures { result ≡ verb_of (act_of self.now) }
+    #[tactic(auto, using(verbs::proofs::Progs::mappeds))]
+    pub fn next(self, machines: &Machines) -> Option<Verb>
+        requires { Stands machines.now self }
+        ensures { result ≡ verb_of (act_of machines.now self) }
     {
         match self {
-            Op::Search(search) => search.next(),
-            Op::Delete(delete) => delete.next(),
-            Op::Update(update) => update.next(),
-            Op::Insert(insert) => insert.next(),
-            Op::Room(split) | Op::Split(split) | Op::Resume(split) => split.next(),
-            Op::Walk(walk) => walk.next(),
-            Op::Full => None,
+            At::Search | At::Walk => machines.work.pass.next(),
+            At::Delete(at) => at.next(&machines.work),
+            At::Update(at) => at.next(&machines.work),
+            At::Insert(at) => at.next(&machines.work),
+            At::Room | At::Split | At::Resume => machines.split.next(),
+            At::Full => None,
         }
     }
 
     /// The block of which that verb reads a word.
-    pub fn block(&self) -> Option<u64>
-        ensures { result ≡ block_in (act_of self.now) }
+    #[tactic(auto, using(verbs::proofs::Progs::mappeds))]
+    pub fn block(self, machines: &Machines) -> Option<u64>
+        requires { Stands machines.now self }
+        ensures { result ≡ block_in (act_of machines.now self) }
     {
         match self {
-            Op::Search(search) => search.block(),
-            Op::Delete(delete) => delete.block(),
-            Op::Update(update) => update.block(),
-            Op::Insert(insert) => insert.block(),
-            Op::Room(split) | Op::Split(split) | Op::Resume(split) => split.block(),
-            Op::Walk(walk) => walk.block(),
-            Op::Full => None,
+            At::Search | At::Walk => machines.work.pass.block(),
+            At::Delete(at) => at.block(&machines.work),
+            At::Update(at) => at.block(&machines.work),
+            At::Insert(at) => at.block(&machines.work),
+            At::Room | At::Split | At::Resume => machines.split.block(),
+            At::Full => None,
         }
     }
 
     /// The key whose hash is wanted.
-    pub fn asks(&self) -> Option<Key>
-        ensures { result ≡ key_of (act_of self.now) }
+    #[tactic(auto, using(verbs::proofs::Progs::mappeds))]
+    pub fn asks(self, machines: &Machines) -> Option<Key>
+        requires { Stands machines.now self }
+        ensures { result ≡ key_of (act_of machines.now self) }
     {
         match self {
-            Op::Search(search) => search.asks(),
-            Op::Delete(delete) => delete.asks(),
-            Op::Update(update) => update.asks(),
-            Op::Insert(insert) => insert.asks(),
-            Op::Room(split) | Op::Split(split) | Op::Resume(split) => split.asks(),
-            Op::Walk(walk) => walk.asks(),
-            Op::Full => None,
+            At::Search | At::Walk => machines.work.pass.asks(),
+            At::Delete(at) => at.asks(&machines.work),
+            At::Update(at) => at.asks(&machines.work),
+            At::Insert(at) => at.asks(&machines.work),
+            At::Room | At::Split | At::Resume => machines.split.asks(),
+            At::Full => None,
         }
     }
 
     /// Whether an act is left.
     #[inline(always)]
     #[tactic(auto, using(crate::proofs::Acting::acting))]
-    pub fn acts(&self) -> bool
-        ensures { result ≡ is_some (act_of self.now) }
+    pub fn acts(self, machines: &Machines) -> bool
+        requires { Stands machines.now self }
+        ensures { result ≡ is_some (act_of machines.now self) }
     {
         match self {
-            Op::Search(search) => !search.has_ended(),
-            Op::Delete(delete) => !delete.has_ended(),
-            Op::Update(update) => !update.has_ended(),
-            Op::Insert(insert) => !insert.has_ended(),
-            Op::Room(split) | Op::Split(split) | Op::Resume(split) => split_acts(split),
-            Op::Walk(walk) => !walk.has_ended(),
-            Op::Full => false,
+            At::Search => !machines.work.pass.has_ended(),
+            At::Delete(at) => !at.has_ended(),
+            At::Update(at) => !at.has_ended(),
+            At::Insert(at) => !at.has_ended(),
+            At::Room | At::Split | At::Resume => split_acts(&machines.split),
+            At::Walk => !machines.work.pass.has_ended(),
+            At::Full => false,
         }
     }
 
     /// Whether nothing follows the operation as it stands: it has an act, or is the last of its call.
     #[inline(always)]
     #[tactic(auto, using(crate::proofs::Parts::acts_settle))]
-    pub fn is_settled(&self) -> bool
-        ensures { IsTrue result → Settled self.now }
+    pub fn is_settled(self, machines: &Machines) -> bool
+        requires { Stands machines.now self }
+        ensures { IsTrue result → Settled machines.now self }
     {
         match self {
-            Op::Search(_) | Op::Delete(_) | Op::Update(_) | Op::Full => true,
-            _ => self.acts(),
+            At::Search | At::Delete(_) | At::Update(_) | At::Full => true,
+            _ => self.acts(machines),
         }
     }
 }

@@ -8,17 +8,17 @@ ghost use Rattle.call_machine.specs.Beginning.{begin_from};
 ghost use Rattle.call_machine.specs.Rest.{rest_of};
 ghost use Rattle.call_machine.specs.Fits.{CallFits};
 
+use crate::at::At;
 use crate::forgotten::Forgotten;
-use crate::op::Op;
+use crate::machines::Machines;
 use crate::state::ClientState;
 use crate::steps::gone_on;
 use crate::task::Task;
 use kv_block::{Key, Value};
 use map_model::Call;
-use op_delete::DeleteOp;
-use op_search::SearchOp;
-use op_update::UpdateOp;
-use scan_pass::{Pass, PassMode};
+use op_delete::At as Deleting;
+use op_update::At as Updating;
+use scan_pass::PassMode;
 
 impl Task {
     /// The task of a call of this key and value, from the table that the cache names.
@@ -49,35 +49,44 @@ impl Task {
     }
 
     /// A search.
-    pub fn search(&self) -> Op
-        ensures rest { rest_of self.now result ≡ search_call (caller_in self.now) self.now.key self.now.start self.now.area self.now.ticket }
-        ensures fits { CallFits self.now result }
+    pub fn search(&self, machines: &mut Machines) -> At
+        ensures rest { rest_of self.now machines.new result ≡ search_call (caller_in self.now) self.now.key self.now.start self.now.area self.now.ticket }
+        ensures fits { CallFits self.now machines.new result }
     {
-        Op::Search(SearchOp::start(Pass::start(
+        machines.work.seek(
             self.geometry,
             self.start,
             &self.key,
             self.hash,
             PassMode::Look,
-        )))
+        );
+        At::Search
     }
 
     /// A delete.
-    pub fn delete(&self) -> Op
+    pub fn delete(&self, machines: &mut Machines) -> At
         requires { 1 ≤ self.now.tries }
-        ensures rest { rest_of self.now result ≡ delete_call (caller_in self.now) self.now.key self.now.start self.now.area self.now.ticket }
-        ensures fits { CallFits self.now result }
+        ensures rest { rest_of self.now machines.new result ≡ delete_call (caller_in self.now) self.now.key self.now.start self.now.area self.now.ticket }
+        ensures fits { CallFits self.now machines.new result }
     {
-        Op::Delete(DeleteOp::start(self.geometry, self.hash, &self.key, self.start, self.tries))
+        At::Delete(Deleting::begin(
+            &mut machines.work,
+            self.geometry,
+            self.hash,
+            &self.key,
+            self.start,
+            self.tries,
+        ))
     }
 
     /// An update.
-    pub fn update(&self) -> Op
+    pub fn update(&self, machines: &mut Machines) -> At
         requires { 1 ≤ self.now.tries }
-        ensures rest { rest_of self.now result ≡ update_call (caller_in self.now) (pair_in self.now) self.now.start self.now.area self.now.ticket }
-        ensures fits { CallFits self.now result }
+        ensures rest { rest_of self.now machines.new result ≡ update_call (caller_in self.now) (pair_in self.now) self.now.start self.now.area self.now.ticket }
+        ensures fits { CallFits self.now machines.new result }
     {
-        Op::Update(UpdateOp::start(
+        At::Update(Updating::begin(
+            &mut machines.work,
             self.geometry,
             self.client,
             self.hash,
@@ -90,31 +99,34 @@ impl Task {
     }
 
     /// A resize.
-    pub fn resize(&self) -> Op
+    pub fn resize(&self, machines: &mut Machines) -> At
         requires some { 1 ≤ self.now.tries }
         requires left { self.now.left ≡ self.now.tries }
-        ensures rest { rest_of self.now result ≡ resize_call (caller_in self.now) self.now.key self.now.start self.now.area self.now.ticket }
-        ensures fits { CallFits self.now result }
+        ensures rest { rest_of self.now machines.new result ≡ resize_call (caller_in self.now) self.now.key self.now.start self.now.area self.now.ticket }
+        ensures fits { CallFits self.now machines.new result }
     {
         match self.ticket {
-            Some(ticket) => Op::Resume(gone_on(ticket, self.tries)),
-            None => self.walk(self.start),
+            Some(ticket) => {
+                machines.split = gone_on(ticket, self.tries);
+                At::Resume
+            }
+            None => self.walk(machines, self.start),
         }
     }
 
     /// The operation with which the call begins.
-    pub fn begin(&self, call: &Call) -> Op
+    pub fn begin(&self, machines: &mut Machines, call: &Call) -> At
         requires some { 1 ≤ self.now.tries }
         requires left { self.now.left ≡ self.now.tries }
-        ensures rest { rest_of self.now result ≡ begin_from (caller_in self.now) (pair_in self.now) (inserting_in self.now) call.now }
-        ensures fits { CallFits self.now result }
+        ensures rest { rest_of self.now machines.new result ≡ begin_from (caller_in self.now) (pair_in self.now) (inserting_in self.now) call.now }
+        ensures fits { CallFits self.now machines.new result }
     {
         match call {
-            Call::Search { .. } => self.search(),
-            Call::Delete { .. } => self.delete(),
-            Call::Update { .. } => self.update(),
-            Call::Insert { .. } => self.insert(),
-            Call::Resize { .. } => self.resize(),
+            Call::Search { .. } => self.search(machines),
+            Call::Delete { .. } => self.delete(machines),
+            Call::Update { .. } => self.update(machines),
+            Call::Insert { .. } => self.insert(machines),
+            Call::Resize { .. } => self.resize(machines),
         }
     }
 }

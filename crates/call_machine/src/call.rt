@@ -7,8 +7,9 @@ ghost use Rattle.call_machine.specs.Tasks.{call_end, value_in};
 ghost use Rattle.call_machine.specs.Fits.{CallFits, CallFits-prop};
 
 use crate::answer::Answer;
+use crate::at::At;
 use crate::end::End;
-use crate::op::Op;
+use crate::machines::Machines;
 use crate::state::ClientState;
 use crate::task::Task;
 use dir_cache::DirCache;
@@ -22,8 +23,9 @@ use verb_log::Verb;
 #[derive(Debug, Drop)]
 pub struct CallMachine {
     pub(crate) task: Task,
-    pub(crate) op: Op,
-    ghost fits: { CallFits task op } by { CallFits-prop task op },
+    pub(crate) machines: Machines,
+    pub(crate) at: At,
+    ghost fits: { CallFits task machines at } by { CallFits-prop task machines at },
 }
 
 impl CallMachine {
@@ -34,15 +36,34 @@ impl CallMachine {
     ghost use Rattle.call_machine.specs.Tasks.{answer_in, call_end};
     ghost use Rattle.call_machine.specs.CallRest.{call_rest, call_of};
 
+    /// The machine of a client with this state that has not begun a call. It would be of this key.
+    pub fn idle(state: &ClientState, key: &Key) -> CallMachine {
+        CallMachine {
+            task: Task::new(state, 0, key, Value::empty()),
+            machines: Machines::idle(state.geometry, state.client, key),
+            at: At::Full,
+        }
+    }
+
+    /// Another call begins in place of this one, as by `start`.
+    #[tactic(auto, using(crate::proofs::Beginnings::begun), unfolding(crate::specs::CallRest::call_rest, crate::specs::CallRest::call_of))]
+    pub fn begin(&mut self, state: &ClientState, hash: u64, call: &Call)
+        ensures rest { call_rest self.new ≡ begin_call state.now hash call.now }
+        ensures caller { call_of self.new ≡ caller_of state.now hash }
+    {
+        self.task = Task::new(state, hash, &call.key(), value_of(call));
+        self.at = self.task.begin(&mut self.machines, call);
+    }
+
     /// The call at its beginning, of a client with this state, where its key has this hash. It means the text of the call.
     #[tactic(auto, using(crate::proofs::Beginnings::begun), unfolding(crate::specs::CallRest::call_rest, crate::specs::CallRest::call_of))]
     pub fn start(state: &ClientState, hash: u64, call: &Call) -> CallMachine
         ensures rest { call_rest result ≡ begin_call state.now hash call.now }
         ensures caller { call_of result ≡ caller_of state.now hash }
     {
-        let task = Task::new(state, hash, &call.key(), value_of(call));
-        let op = task.begin(call);
-        CallMachine { task, op }
+        let mut machine = CallMachine::idle(state, &call.key());
+        machine.begin(state, hash, call);
+        machine
     }
 
     /// The verb to do now. None exactly where the call has answered, or waits for the hash of another key.
@@ -51,7 +72,7 @@ impl CallMachine {
     pub fn next(&self) -> Option<Verb>
         ensures { result ≡ next_verb (call_rest self.now) }
     {
-        self.op.next()
+        self.at.next(&self.machines)
     }
 
     /// The block of which that verb reads a word. None exactly where there is no verb, or where it reads no word of a block.
@@ -59,7 +80,7 @@ impl CallMachine {
     pub fn block(&self) -> Option<u64>
         ensures { result ≡ block_of (call_rest self.now) }
     {
-        self.op.block()
+        self.at.block(&self.machines)
     }
 
     /// Takes the verb's answer: the word read, the word that a swap found, or 0 after a write.
@@ -70,8 +91,8 @@ impl CallMachine {
         ensures rest { call_rest self.new ≡ goes_on part_of (after (call_rest self.old) word) }
         ensures caller { call_of self.new ≡ call_of self.old }
     {
-        self.op.feed(word);
-        self.op.settle(&mut self.task);
+        let at = self.at.feed(&mut self.machines, word);
+        self.at = at.settle(&mut self.machines, &mut self.task);
     }
 
     /// The key whose hash is wanted. None exactly where no hash is.
@@ -79,7 +100,7 @@ impl CallMachine {
     pub fn asks(&self) -> Option<Key>
         ensures { result ≡ asked (call_rest self.now) }
     {
-        self.op.asks()
+        self.at.asks(&self.machines)
     }
 
     /// Takes the hash of the key that `asks` names. Where no hash is wanted it changes nothing.
@@ -89,9 +110,9 @@ impl CallMachine {
         ensures same { asked (call_rest self.old) ≡ None → self.new ≡ self.old }
         ensures caller { call_of self.new ≡ call_of self.old }
     {
-        if self.op.asks().is_some() {
-            self.op.tell(hash);
-            self.op.settle(&mut self.task);
+        if self.at.asks(&self.machines).is_some() {
+            let at = self.at.tell(&mut self.machines, hash);
+            self.at = at.settle(&mut self.machines, &mut self.task);
         }
     }
 
@@ -102,7 +123,7 @@ impl CallMachine {
         ensures answer { result ≡ is_some (answer_of (call_rest self.now)) }
         ensures act { result ≡ is_none (next_act (call_rest self.now)) }
     {
-        !self.op.acts()
+        !self.at.acts(&self.machines)
     }
 
     /// What the call answers. None exactly until it has answered; before that it has a verb, or waits for a hash.
@@ -113,7 +134,7 @@ impl CallMachine {
         if !self.has_answered() {
             return None;
         }
-        match self.op.end(&self.task) {
+        match self.at.end(&self.machines, &self.task) {
             Some(end) => Some(Answer {
                 reply: end.reply,
                 from: end.source,
@@ -131,7 +152,7 @@ impl CallMachine {
         requires { IsSome (answer_of (call_rest self)) }
         ensures { (e : CallEnd) → answer_of (call_rest self) ≡ Some e → state.new ≡ state_after state.old e }
     {
-        if let Some(end) = self.op.end(&self.task) {
+        if let Some(end) = self.at.end(&self.machines, &self.task) {
             leave(state, self.task.hash, &end);
         }
     }

@@ -6,11 +6,12 @@ ghost use Rattle.call_texts.specs.Text.{block_of};
 ghost use Rattle.call_machine.specs.Low.{LowTable};
 ghost use Rattle.call_machine.specs.Tasks.{call_end};
 ghost use Rattle.call_machine.specs.Spare.{InsertDone, RoomDone, SplitDone};
-ghost use Rattle.call_machine.specs.Fits.{Settled};
+ghost use Rattle.call_machine.specs.Fits.{Stands, Settled};
 ghost use Rattle.call_machine.specs.Rest.{rest_of, full, on_search, on_delete, on_update, on_insert, on_room, on_split};
 
+use crate::at::At;
 use crate::end::End;
-use crate::op::Op;
+use crate::machines::Machines;
 use crate::task::Task;
 use map_model::Reply;
 use op_delete::{DeleteEnd, DeleteOutcome};
@@ -204,57 +205,46 @@ fn again(task: &Task) -> Reply
     Reply::Again { lost: task.tries }
 }
 
-impl Op {
+impl At {
     /// How the call ends. None exactly until it has answered.
     #[tactic(auto, using(crate::proofs::Parts::told))]
-    pub fn end(&self, task: &Task) -> Option<End>
-        requires { Settled self.now }
-        ensures end { option_map (call_end task.now.hash) result ≡ answer_of (rest_of task.now self.now) }
+    pub fn end(self, machines: &Machines, task: &Task) -> Option<End>
+        requires stands { Stands machines.now self }
+        requires settled { Settled machines.now self }
+        ensures end { option_map (call_end task.now.hash) result ≡ answer_of (rest_of task.now machines.now self) }
         ensures low { IfSome result (λ end. LowTable end.table) }
     {
         match self {
-            Op::Search(search) => match Machine::outcome(search) {
-                Some(end) => {
-                    let _table = search.table();
-                    Some(search_end(task, &end))
-                }
+            At::Search => match op_search::search_end(&machines.work.pass) {
+                Some(end) => Some(search_end(task, &end)),
                 None => None,
             },
-            Op::Delete(delete) => match Machine::outcome(delete) {
-                Some(end) => {
-                    let _table = delete.table();
-                    Some(delete_end(task, &end))
-                }
+            At::Delete(at) => match at.end(&machines.work) {
+                Some(end) => Some(delete_end(task, &end)),
                 None => None,
             },
-            Op::Update(update) => match Machine::outcome(update) {
-                Some(end) => {
-                    let _table = update.table();
-                    Some(update_end(task, &end))
-                }
+            At::Update(at) => match at.end(&machines.work) {
+                Some(end) => Some(update_end(task, &end)),
                 None => None,
             },
-            Op::Insert(insert) => match Machine::outcome(insert) {
-                Some(end) => {
-                    let _table = insert.table();
-                    Some(insert_end(task, &end))
-                }
+            At::Insert(at) => match at.end(&machines.work) {
+                Some(end) => Some(insert_end(task, &end)),
                 None => None,
             },
-            Op::Room(split) => match Machine::outcome(split) {
+            At::Room => match Machine::outcome(&machines.split) {
                 Some(end) => Some(room_end(task, &end)),
                 None => None,
             },
-            Op::Split(split) => match Machine::outcome(split) {
+            At::Split => match Machine::outcome(&machines.split) {
                 Some(end) => Some(split_end(task, Some(task.table), &end)),
                 None => None,
             },
-            Op::Resume(split) => match Machine::outcome(split) {
+            At::Resume => match Machine::outcome(&machines.split) {
                 Some(end) => Some(split_end(task, None, &end)),
                 None => None,
             },
-            Op::Walk(_) => None,
-            Op::Full => Some(full_end(task)),
+            At::Walk => None,
+            At::Full => Some(full_end(task)),
         }
     }
 }

@@ -9,13 +9,14 @@
 
 mod acts;
 mod answer;
+mod at;
 mod begin;
 mod call;
 mod end;
 mod ends;
 mod fed;
 mod forgotten;
-mod op;
+mod machines;
 mod state;
 mod steps;
 mod task;

@@ -8,15 +8,16 @@ ghost use Rattle.call_texts.specs.Text.{part_of, insert_part, walk_part, split_j
 ghost use Rattle.call_machine.specs.Tasks.{caller_in, pair_in, inserting_in};
 ghost use Rattle.call_machine.specs.Spare.{InsertSpares, SplitSpares, InsertDone, RoomDone, SplitDone};
 ghost use Rattle.call_machine.specs.Rest.{rest_of, on_insert, on_room, on_walk, on_split};
-ghost use Rattle.call_machine.specs.Fits.{CallFits, HasSpare, Settled};
+ghost use Rattle.call_machine.specs.Fits.{CallFits, Stands, HasSpare, Settled};
 ghost use Rattle.call_machine.specs.Follows.{Follows};
 
+use crate::at::At;
 use crate::forgotten::Forgotten;
-use crate::op::Op;
+use crate::machines::Machines;
 use crate::task::Task;
-use op_insert::{InsertEnd, InsertOp, InsertOutcome};
+use op_insert::{At as Inserting, InsertEnd, InsertOutcome};
 use remote_resize::ResizeOp;
-use scan_pass::{Pass, PassMode, Passed};
+use scan_pass::{PassMode, Passed};
 use slot_word::{Head, State};
 use split_text::{ResizeEnd, ResizeOutcome, Ticket};
 use verbs::Machine;
@@ -80,12 +81,13 @@ fn plain_full(task: &Task, opened: &Option<Head>) -> bool
 impl Task {
     // The insert starts again, from what the task says.
     #[tactic(auto, using(crate::proofs::Inserts::spares_on))]
-    pub fn insert(&self) -> Op
+    pub fn insert(&self, machines: &mut Machines) -> At
         requires { 1 ≤ self.now.left }
-        ensures rest { rest_of self.now result ≡ insert_part (caller_in self.now) (pair_in self.now) (inserting_in self.now) }
-        ensures fits { CallFits self.now result }
+        ensures rest { rest_of self.now machines.new result ≡ insert_part (caller_in self.now) (pair_in self.now) (inserting_in self.now) }
+        ensures fits { CallFits self.now machines.new result }
     {
-        Op::Insert(InsertOp::start(
+        At::Insert(Inserting::begin(
+            &mut machines.work,
             self.geometry,
             self.client,
             self.hash,
@@ -99,12 +101,15 @@ impl Task {
     }
 
     // The walk starts again.
-    pub fn walk(&self, start: Option<u64>) -> Op
+    pub fn walk(&self, machines: &mut Machines, start: Option<u64>) -> At
         requires { 1 ≤ self.now.left }
-        ensures rest { rest_of self.now result ≡ walk_part (caller_in self.now) self.now.key self.now.area start self.now.left }
-        ensures fits { CallFits self.now result }
+        ensures rest { rest_of self.now machines.new result ≡ walk_part (caller_in self.now) self.now.key self.now.area start self.now.left }
+        ensures fits { CallFits self.now machines.new result }
     {
-        Op::Walk(Pass::start(self.geometry, start, &self.key, self.hash, PassMode::Walk))
+        machines
+            .work
+            .seek(self.geometry, start, &self.key, self.hash, PassMode::Walk);
+        At::Walk
     }
 
     // The split of the table where the pass has ended.
@@ -138,11 +143,17 @@ pub fn gone_on(ticket: Ticket, left: u32) -> ResizeOp
 }
 
 // The insert has ended so that it needs room.
-fn room(task: &mut Task, end: &InsertEnd, passed: &Passed, kept: Option<u64>) -> Op
+fn room(
+    task: &mut Task,
+    machines: &mut Machines,
+    end: &InsertEnd,
+    passed: &Passed,
+    kept: Option<u64>,
+) -> At
     requires low { end.now.table < 2 ^ 46 }
     requires spare { end.now.lost < task.old.left }
-    ensures rest { rest_of task.new result ≡ goes_on part_of (room (caller_in task.old) (pair_in task.old) (inserting_in task.old) end.now passed.now kept (task.old.left - end.now.lost) task.old.ticket) }
-    ensures fits { CallFits task.new result }
+    ensures rest { rest_of task.new machines.new result ≡ goes_on part_of (room (caller_in task.old) (pair_in task.old) (inserting_in task.old) end.now passed.now kept (task.old.left - end.now.lost) task.old.ticket) }
+    ensures fits { CallFits task.new machines.new result }
     ensures caller { caller_in task.new ≡ caller_in task.old }
 {
     task.left = task.left.saturating_sub(end.lost);
@@ -151,41 +162,43 @@ fn room(task: &mut Task, end: &InsertEnd, passed: &Passed, kept: Option<u64>) ->
     task.table = end.table;
     task.depth = passed.head.depth;
     if let Some(ticket) = task.ticket {
-        return Op::Room(gone_on(ticket, task.left));
+        machines.split = gone_on(ticket, task.left);
+        return At::Room;
     }
     if !is_plain_at(task.geometry.max_depth, &passed.head) {
-        return Op::Room(task.split(task.left));
+        machines.split = task.split(task.left);
+        return At::Room;
     }
     if was_full(task, end.table, passed) {
-        return Op::Full;
+        return At::Full;
     }
     task.full = Some(end.table);
-    insert_again(task, Some(end.table), task.left)
+    insert_again(task, machines, Some(end.table), task.left)
 }
 
 // What follows an insert that has ended.
-fn after_insert(task: &mut Task, end: &InsertEnd) -> Option<Op>
+fn after_insert(task: &mut Task, machines: &mut Machines, end: &InsertEnd) -> Option<At>
     requires low { end.now.table < 2 ^ 46 }
     requires spare { InsertSpares task.old.left end.now }
-    ensures { Follows (InsertDone end.now) (on_insert task.old end.now) task.old task.new result }
+    ensures { Follows (InsertDone end.now) (on_insert task.old end.now) task.old machines.old task.new machines.new result }
 {
     match &end.outcome {
-        InsertOutcome::NeedRoom { passed, kept } => Some(room(task, end, passed, *kept)),
+        InsertOutcome::NeedRoom { passed, kept } => Some(room(task, machines, end, passed, *kept)),
         _ => None,
     }
 }
 
 // The insert starts again from this cached table, while `left` swaps may be lost.
-fn insert_again(task: &mut Task, start: Option<u64>, left: u32) -> Op
+fn insert_again(task: &mut Task, machines: &mut Machines, start: Option<u64>, left: u32) -> At
     requires { 1 ≤ left }
-    ensures rest { rest_of task.new result ≡ insert_part (caller_in task.old) (pair_in task.old) (record { start = start; kept = task.old.kept; left = left; full = task.old.full; forgotten = task.old.forgotten; area = task.old.area; ticket = None }) }
-    ensures fits { CallFits task.new result }
+    ensures rest { rest_of task.new machines.new result ≡ insert_part (caller_in task.old) (pair_in task.old) (record { start = start; kept = task.old.kept; left = left; full = task.old.full; forgotten = task.old.forgotten; area = task.old.area; ticket = None }) }
+    ensures fits { CallFits task.new machines.new result }
     ensures caller { caller_in task.new ≡ caller_in task.old }
 {
     task.ticket = None;
     task.left = left;
     task.start = start;
-    task.insert()
+    task.insert(machines)
 }
 
 // Under the lock the table's header was read as plain at the greatest depth.
@@ -200,121 +213,119 @@ fn full_now(task: &Task) -> Option<u64>
 }
 
 // What follows the split of an insert.
-fn after_room(task: &mut Task, end: &ResizeEnd) -> Option<Op>
+fn after_room(task: &mut Task, machines: &mut Machines, end: &ResizeEnd) -> Option<At>
     requires { SplitSpares end.now }
-    ensures { Follows (RoomDone end.now) (on_room task.old end.now) task.old task.new result }
+    ensures { Follows (RoomDone end.now) (on_room task.old end.now) task.old machines.old task.new machines.new result }
 {
     match &end.outcome {
         ResizeOutcome::Split { table, .. } => {
             let start = unless_split(Some(task.table), *table);
             task.forgotten.push(*table);
-            Some(insert_again(task, start, end.left))
+            Some(insert_again(task, machines, start, end.left))
         }
         ResizeOutcome::Changed => {
             task.full = full_now(task);
-            Some(insert_again(task, Some(task.table), end.left))
+            Some(insert_again(task, machines, Some(task.table), end.left))
         }
-        ResizeOutcome::Locked => Some(insert_again(task, Some(task.table), end.left)),
+        ResizeOutcome::Locked => Some(insert_again(task, machines, Some(task.table), end.left)),
         ResizeOutcome::Again { .. } | ResizeOutcome::FullWords { .. } => None,
     }
 }
 
 // What follows a walk.
-fn after_walk(task: &mut Task, passed: &Passed) -> Op
+fn after_walk(task: &mut Task, machines: &mut Machines, passed: &Passed) -> At
     requires low { passed.now.table < 2 ^ 46 }
     requires spare { 1 ≤ task.old.left }
-    ensures rest { rest_of task.new result ≡ goes_on part_of (on_walk task.old passed.now) }
-    ensures fits { CallFits task.new result }
+    ensures rest { rest_of task.new machines.new result ≡ goes_on part_of (on_walk task.old passed.now) }
+    ensures fits { CallFits task.new machines.new result }
     ensures caller { caller_in task.new ≡ caller_in task.old }
 {
     task.table = passed.table;
     task.depth = passed.head.depth;
     if is_plain_at(task.geometry.max_depth, &passed.head) {
         task.forgotten = Forgotten::new();
-        return Op::Full;
+        return At::Full;
     }
-    Op::Split(task.split(task.left))
+    machines.split = task.split(task.left);
+    At::Split
 }
 
 // What follows the split of a resize, after a walk that ended at this table, or after none.
-fn after_split(task: &mut Task, table: Option<u64>, end: &ResizeEnd) -> Option<Op>
+fn after_split(
+    task: &mut Task,
+    machines: &mut Machines,
+    table: Option<u64>,
+    end: &ResizeEnd,
+) -> Option<At>
     requires { SplitSpares end.now }
-    ensures { Follows (SplitDone end.now) (on_split task.old table end.now) task.old task.new result }
+    ensures { Follows (SplitDone end.now) (on_split task.old table end.now) task.old machines.old task.new machines.new result }
 {
     match &end.outcome {
         ResizeOutcome::Changed | ResizeOutcome::Locked => {
             task.left = end.left;
-            Some(task.walk(table))
+            Some(task.walk(machines, table))
         }
         _ => None,
     }
 }
 
-impl Op {
-    // What follows the operation: None where it has an act, or the call its answer.
-    #[tactic(auto, using(crate::proofs::Parts::onward))]
-    fn follow(&self, task: &mut Task) -> Option<Op>
-        requires { HasSpare task.old self.now }
-        ensures { Follows (Settled self.now) (rest_of task.old self.now) task.old task.new result }
-    {
-        match self {
-            Op::Insert(insert) => match Machine::outcome(insert) {
-                Some(end) => {
-                    let _table = insert.table();
-                    after_insert(task, &end)
-                }
-                None => None,
-            },
-            Op::Room(split) => match Machine::outcome(split) {
-                Some(end) => after_room(task, &end),
-                None => None,
-            },
-            Op::Walk(walk) => match walk.passed() {
-                Some(passed) => {
-                    let _table = walk.table();
-                    Some(after_walk(task, &passed))
-                }
-                None => None,
-            },
-            Op::Split(split) => match Machine::outcome(split) {
-                Some(end) => after_split(task, Some(task.table), &end),
-                None => None,
-            },
-            Op::Resume(split) => match Machine::outcome(split) {
-                Some(end) => after_split(task, None, &end),
-                None => None,
-            },
-            Op::Search(_) | Op::Delete(_) | Op::Update(_) | Op::Full => None,
-        }
-    }
-
-    // Another part begins, where the operation has ended so that one does. A part is kilobytes: it has a function of its own, so that
-    // the verbs within a part do not clear the room for one.
+impl At {
+    // What follows the operation: None where it has an act, or the call its answer. A part is begun in a function of its own, so that
+    // the verbs within a part do not pay for it.
     #[inline(never)]
     #[tactic(auto, using(crate::proofs::Parts::onward))]
-    fn begin_part(&mut self, task: &mut Task)
-        requires { HasSpare task.old self.old }
-        ensures rest { rest_of task.new self.new ≡ goes_on part_of (rest_of task.old self.old) }
-        ensures fits { CallFits task.new self.new }
-        ensures caller { caller_in task.new ≡ caller_in task.old }
+    fn follow(self, machines: &mut Machines, task: &mut Task) -> Option<At>
+        requires stands { Stands machines.old self }
+        requires spare { HasSpare task.old machines.old self }
+        ensures { Follows (Settled machines.old self) (rest_of task.old machines.old self) task.old machines.old task.new machines.new result }
     {
-        if let Some(next) = self.follow(task) {
-            *self = next;
+        match self {
+            At::Insert(at) => match at.end(&machines.work) {
+                Some(end) => after_insert(task, machines, &end),
+                None => None,
+            },
+            At::Room => match Machine::outcome(&machines.split) {
+                Some(end) => after_room(task, machines, &end),
+                None => None,
+            },
+            At::Walk => match machines.work.pass.passed() {
+                Some(passed) => {
+                    let _table = machines.work.pass.table();
+                    Some(after_walk(task, machines, &passed))
+                }
+                None => None,
+            },
+            At::Split => match Machine::outcome(&machines.split) {
+                Some(end) => {
+                    let table = task.table;
+                    after_split(task, machines, Some(table), &end)
+                }
+                None => None,
+            },
+            At::Resume => match Machine::outcome(&machines.split) {
+                Some(end) => after_split(task, machines, None, &end),
+                None => None,
+            },
+            At::Search | At::Delete(_) | At::Update(_) | At::Full => None,
         }
     }
 
     /// Another part begins, where the operation has ended so that one does.
     #[inline(always)]
     #[tactic(auto, using(crate::proofs::Parts::onward))]
-    pub fn settle(&mut self, task: &mut Task)
-        requires { HasSpare task.old self.old }
-        ensures rest { rest_of task.new self.new ≡ goes_on part_of (rest_of task.old self.old) }
-        ensures fits { CallFits task.new self.new }
+    pub fn settle(self, machines: &mut Machines, task: &mut Task) -> At
+        requires stands { Stands machines.old self }
+        requires spare { HasSpare task.old machines.old self }
+        ensures rest { rest_of task.new machines.new result ≡ goes_on part_of (rest_of task.old machines.old self) }
+        ensures fits { CallFits task.new machines.new result }
         ensures caller { caller_in task.new ≡ caller_in task.old }
     {
-        if self.is_settled() {
-            return;
+        if self.is_settled(machines) {
+            return self;
         }
-        self.begin_part(task);
+        match self.follow(machines, task) {
+            Some(next) => next,
+            None => self,
+        }
     }
 }
