@@ -5,3 +5,6 @@ mod Losing
 mod Runs
 mod Answered
 mod Fresh
+mod Passing
+mod Done
+mod Saved

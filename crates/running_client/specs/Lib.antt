@@ -2,5 +2,8 @@ pub mod Traces
 pub mod Replies
 pub mod Points
 pub mod Called
+pub mod Cached
+pub mod Through
+pub mod Saving
 pub mod Served
 pub mod Running
