@@ -36,3 +36,12 @@ pub fn expect<R: Abort + Threads + Sync>(
     assert_eq!(rt; sink.taken(), written);
     Ok(())
 }
+
+/// Texts, one after another.
+pub fn joined(alloc: Global, parts: &[&str]) -> Result<Vec<u8>, AllocError> {
+    let mut text = Vec::new(alloc);
+    for part in parts {
+        text.extend_from_slice(part.as_bytes())?;
+    }
+    Ok(text)
+}

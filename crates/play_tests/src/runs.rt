@@ -1,7 +1,7 @@
 //! Plays on threads.
 
 use crate::meeting::Meeting;
-use crate::plays::{SMALLEST_RUN_SCRIPT, expect};
+use crate::plays::{SMALLEST_RUN_SCRIPT, expect, joined};
 use race_io::{CleanSource, MemorySink, OpenGate};
 use race_play::race;
 use std::alloc::{AllocError, Global};
@@ -123,15 +123,6 @@ fn stops(rt: HostRuntime) -> Result<(), Fail> {
         expect(&rt, rt.alloc(), "run", &script, &[], &[], 4096, 0, &report)?;
     }
     Ok(())
-}
-
-// Texts, one after another.
-fn joined(alloc: Global, parts: &[&str]) -> Result<Vec<u8>, AllocError> {
-    let mut text = Vec::new(alloc);
-    for part in parts {
-        text.extend_from_slice(part.as_bytes())?;
-    }
-    Ok(text)
 }
 
 // The smallest run from a source, and to a sink, whose call number k fails. The whole script comes at the first take, and the second

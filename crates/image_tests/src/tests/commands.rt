@@ -71,10 +71,18 @@ fn lengths(rt: HostRuntime) -> Result<(), Fail> {
 fn faults(rt: HostRuntime) -> Result<(), Fail> {
     let alloc = rt.alloc();
     let bytes = spelled(alloc, &ONE_KEY)?;
-    expect(&rt, alloc, &bytes, &[1], &[], 64, 4, b"")?;
-    expect(&rt, alloc, &bytes, &[2], &[], 64, 4, b"")?;
-    expect(&rt, alloc, &bytes, &[3], &[], 64, 0, MAP)?;
-    expect(&rt, alloc, &bytes, &[], &[1], 64, 5, b"")?;
+    for (takes, puts, status, written) in [
+        ([1].as_slice(), [].as_slice(), 4, b"".as_slice()),
+        (&[2], &[], 4, b""),
+        (&[3], &[], 0, MAP),
+        (&[4], &[], 0, MAP),
+        (&[], &[1], 5, b""),
+        (&[], &[2], 0, MAP),
+        (&[], &[3], 0, MAP),
+        (&[], &[4], 0, MAP),
+    ] {
+        expect(&rt, alloc, &bytes, takes, puts, 64, status, written)?;
+    }
     expect(&rt, alloc, &bytes, &[], &[], 10, 5, b"race audit")?;
     let bad = spelled(alloc, &changed(alloc, &ONE_KEY, &[(15, 1)])?)?;
     expect(&rt, alloc, &bad, &[], &[1], 64, 8, b"")?;
