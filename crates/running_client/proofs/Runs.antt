@@ -11,10 +11,10 @@ use Rattle.verb_log.specs.declared.entry.Entry.{Entry}
 use Rattle.verb_log.specs.declared.entry.Verb.{Verb}
 use Rattle.verb_log.specs.Tables.{Past}
 use Rattle.verb_log.proofs.InOrder.{reverse_push}
-use Rattle.verbs.specs.Programs.{next_verb, answer_of}
+use Rattle.verbs.specs.Programs.{next_verb, block_of, answer_of}
 use Rattle.verbs.specs.Logs.{Entries, MayStand, Begins, Did, place_of}
 use Rattle.verbs.specs.Terms.{Allowed, Step}
-use Rattle.verbs.proofs.Safes.{May-map, May-allowed, May-left, Left}
+use Rattle.verbs.proofs.Safes.{May-map, MayDo-may, May-allowed, May-left, Left}
 use Rattle.verbs.proofs.Growth.{lengthened-same}
 use Rattle.race_laws.specs.Setting.{Setting}
 use Rattle.race_laws.specs.Legal.{MayFollow}
@@ -85,7 +85,7 @@ module _ (s : Setting) (c : ℕ) (call : Call) (state : State) (first : Entries)
           let on = ends_none (answer_of p) (EndsWell s c call state first (changes_of s r.seen) l) _ (verb_open p verb e) h in
           May-allowed (among s c) l verb (λ q word. Unit {0})
           (λ m b. May-map (among s c) m verb (λ q word. SafeCall one_by_one s c n (changes_of s m) q (after_verb part_of (placed s.listed) p word) (EndsWell s c call state first)) (λ q word. Unit {0}) (λ q word x. tt)
-          ((on.2 0 verb (first_there (next_verb p) verb e)).1 m b))
+          (MayDo-may (among s c) m (block_of p) verb (λ q word. SafeCall one_by_one s c n (changes_of s m) q (after_verb part_of (placed s.listed) p word) (EndsWell s c call state first)) ((on.2 0 verb (first_there (next_verb p) verb e)).1 m b)))
 
   -- what it has come to ends well
   ends_right : (n : ℕ) (l : Entries) (p : Text) (t : List (Verb × ℕ)) (d : CallEnd) → (r : IsRunning s c call state first n l p t) → answer_of p ≡ Some d → EndsWell s c call state first (changes_of s r.seen) l d
@@ -180,7 +180,8 @@ module _ (s : Setting) (c : ℕ) (call : Call) (state : State) (first : Entries)
       left_of (suc n) h d =
           let on = ends_none (answer_of p) (EndsWell s c call state first (changes_of s step.seen) step.seen) _ (verb_open p verb e) h in
           May-left (among s c) step.seen verb (λ q word. SafeCall one_by_one s c n (changes_of s step.seen) q (after_verb part_of (placed s.listed) p word) (EndsWell s c call state first)) m w
-          ((on.2 0 verb (first_there (next_verb p) verb e)).1 step.seen (lengthened-same (MayFollow s) c step.seen step.longer.0)) d
+          (MayDo-may (among s c) step.seen (block_of p) verb (λ q word. SafeCall one_by_one s c n (changes_of s step.seen) q (after_verb part_of (placed s.listed) p word) (EndsWell s c call state first))
+          ((on.2 0 verb (first_there (next_verb p) verb e)).1 step.seen (lengthened-same (MayFollow s) c step.seen step.longer.0))) d
 
 -- of a seat that is still of the same memory and client
 pub permitted_as : (seat node : Seated) (verb : Verb) → node.home ≡ seat.home → node.client ≡ seat.client → (place_of verb < seat.home.setting.geometry.words) × Allowed (among seat.home.setting seat.client) node.front verb → Permitted node verb

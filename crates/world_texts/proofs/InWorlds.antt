@@ -1,5 +1,5 @@
 -- A call that is safe as a program of parts is safe verb by verb.
-use Rattle.std.specs.Prelude.{◌≡◌, ℕ, zero, suc, List, [], ◌∷◌, ◌++◌, slice_get, Some, refl}
+use Rattle.std.specs.Prelude.{◌≡◌, ℕ, zero, suc, List, [], ◌∷◌, ◌++◌, slice_get, Option, None, Some, refl}
 use Rattle.std.proofs.Common.{sym, subst, arith, append-nil}
 use Rattle.key_hash.specs.Placing.{placed}
 use Rattle.kv_block.specs.declared.changes.Change.{Change}
@@ -7,9 +7,8 @@ use Rattle.verb_log.specs.declared.entry.Verb.{Verb}
 use Rattle.verb_log.specs.declared.entry.Verb.TheVariants.{Read, Write, Swap}
 use Rattle.verbs.specs.Programs.{do_verb, ask_hash, Prog, ret, ask, Go, again, done, goes_on}
 use Rattle.verbs.specs.Logs.{Entries, word, Begins, MayStand}
-use Rattle.verbs.specs.Terms.{Terms, entry_of, May}
+use Rattle.verbs.specs.Terms.{Terms, entry_of, May, MayDo}
 use Rattle.verbs.specs.Calls as parts
-use Rattle.verbs.proofs.Safes.{MayDo-may}
 use Rattle.verbs.proofs.Growth.{may_stand-push, longer-begins, begins-then}
 use Rattle.race_laws.specs.Setting.{Setting, hash}
 use Rattle.race_laws.specs.Legal.{MayFollow}
@@ -40,6 +39,11 @@ may_grown t l (Swap at old new) P Q st f h = (
   (λ n. f l (word t.geometry l at) st ([], sym (append-nil l)) (h.1 n)),
 )
 
+-- .. and still reads a word of the block that it names
+may_do_grown : (t : Terms) (l : Entries) (block : Option ℕ) (verb : Verb) (P Q : Entries → ℕ → Type 0) → MayStand t.rule l → ((m : Entries) (answer : ℕ) → MayStand t.rule m → Begins l m → P m answer → Q m answer) → MayDo t l block verb P → MayDo t l block verb Q
+may_do_grown t l None verb P Q st f h = may_grown t l verb P Q st f h
+may_do_grown t l (Some block) verb P Q st f h = (h.0, may_grown t l verb P Q st f h.1)
+
 module _ (s : Setting) (c : ℕ) (first : Entries) (End Then : Asked) (then : (before : List Change) (m : Entries) (e : CallEnd) → MayStand (MayFollow s) m → Begins first m → End before m e → Then before m e) where
   pub in_world : (n : ℕ) (before : List Change) (l : Entries) (p : Prog (Go Stage CallEnd)) → MayStand (MayFollow s) l → Begins first l → parts.SafeCall (judged s c part_of) n before l p End → SafeCall one_by_one s c n before l (whole part_of (placed s.listed) p) Then
   unfolding whole after_verb hash
@@ -56,12 +60,12 @@ module _ (s : Setting) (c : ℕ) (first : Entries) (End Then : Asked) (then : (b
     omega arith,
     only_one v _ (
       h.1,
-      λ m grown. may_grown (among s c) m v
+      λ m grown. may_do_grown (among s c) m block v
           (λ q w. parts.SafeCall (judged s c part_of) n (changes_of s m) q (goes_on part_of (k w)) End)
           (λ q w. SafeCall one_by_one s c n (changes_of s m) q (whole part_of (placed s.listed) (k w)) Then)
           grown.0
           (λ q w stands more x. subst (λ t. SafeCall one_by_one s c n (changes_of s m) q t Then) (whole-goes_on Stage CallEnd part_of part_asks (placed s.listed) (k w))
           (in_world n (changes_of s m) q (goes_on part_of (k w)) stands (begins-then first m q (begins-then first l m b (longer-begins (MayFollow s) c l m grown.1)) more) x))
-          (MayDo-may (among s c) m block v (λ q w. parts.SafeCall (judged s c part_of) n (changes_of s m) q (goes_on part_of (k w)) End) (h.2 m grown)),
+          (h.2 m grown),
     ),
   )

@@ -5,7 +5,8 @@ use Rattle.key_hash.specs.Placing.{placed}
 use Rattle.kv_block.specs.declared.changes.Change.{Change}
 use Rattle.verb_log.specs.declared.entry.Verb.{Verb}
 use Rattle.verbs.specs.Logs.{Entries, Did, MayStand, Lengthened, place_of}
-use Rattle.verbs.proofs.Safes.{May-map, May-did, May-left, left-stands, left-lengthened}
+use Rattle.verbs.specs.Terms.{Terms, ReadsBlock, MayDo}
+use Rattle.verbs.proofs.Safes.{MayDo-may, MayDo-map, May-did, May-left, left-stands, left-lengthened}
 use Rattle.verbs.proofs.Growth.{lengthened-same, lengthened-then}
 use Rattle.race_laws.specs.Setting.{Setting}
 use Rattle.race_laws.specs.Legal.{MayFollow}
@@ -39,6 +40,14 @@ ends_map : (o : Option CallEnd) (End : CallEnd → Type 0) (On Next : Type 0) �
 ends_map None End On Next f h = f h
 ends_map (Some d) End On Next f h = h
 
+-- a verb that may be done and names a block reads a word of it
+named_reads : (t : Terms) (m : Entries) (o : Option ℕ) (block : ℕ) (verb : Verb) (Then : Entries → ℕ → Type 0) → o ≡ Some block → MayDo t m o verb Then → ReadsBlock t m block verb
+named_reads t m None block verb Then e h = absurd (cc)
+named_reads t m (Some at) block verb Then e h = subst (λ x. ReadsBlock t m x verb) (same e) h.0
+  where
+    same : Some at ≡ Some block → at ≡ block
+    same e = cc
+
 -- what an end asks of the changes before the last verb, of the log and of what the call comes to
 abbrev pub Asked : Type 1
 Asked = List Change → Entries → CallEnd → Type 0
@@ -55,7 +64,8 @@ module _ (k : Sort) (s : Setting) (c : ℕ) (End : Asked) where
   safe_step zero before l m p choice verb w st h none e d = absurd (ends_none (k.answer p) (End before l) ⊥ none h)
   safe_step (suc n) before l m p choice verb w st h none e d =
       let on = ends_none (k.answer p) (End before l) _ none h in
-      let may = (on.2 (place_in (k.outstanding p) choice) verb e).1 l (lengthened-same (MayFollow s) c l st) in
+      let i = place_in (k.outstanding p) choice in
+      let may = MayDo-may (among s c) l (k.block p i) verb (λ q word. SafeCall k s c n (changes_of s l) q (onward k (placed s.listed) p choice word) End) ((on.2 i verb e).1 l (lengthened-same (MayFollow s) c l st)) in
       let left = May-left (among s c) l verb (λ q word. SafeCall k s c n (changes_of s l) q (onward k (placed s.listed) p choice word) End) m w may d in
       record {
         left = n;
@@ -73,6 +83,15 @@ module _ (k : Sort) (s : Setting) (c : ℕ) (End : Asked) where
   pub safe_place : (n : ℕ) (before : List Change) (l : Entries) (p : k.Text) (choice : ℕ) (verb : Verb) → SafeCall k s c n before l p End → k.answer p ≡ None → chosen (k.outstanding p) choice ≡ Some verb → place_of verb < s.geometry.words
   safe_place zero before l p choice verb h none e = absurd (ends_none (k.answer p) (End before l) ⊥ none h)
   safe_place (suc n) before l p choice verb h none e = ((ends_none (k.answer p) (End before l) _ none h).2 (place_in (k.outstanding p) choice) verb e).0
+
+  -- an outstanding verb that names a block reads a word of it, which is published, whatever others have added
+  pub safe_reads : (n : ℕ) (before : List Change) (l m : Entries) (p : k.Text) (choice block : ℕ) (verb : Verb) → SafeCall k s c n before l p End → k.answer p ≡ None → chosen (k.outstanding p) choice ≡ Some verb
+      → k.block p (place_in (k.outstanding p) choice) ≡ Some block → Lengthened (MayFollow s) c l m → ReadsBlock (among s c) m block verb
+  safe_reads zero before l m p choice block verb h none e named b = absurd (ends_none (k.answer p) (End before l) ⊥ none h)
+  safe_reads (suc n) before l m p choice block verb h none e named b =
+      let i = place_in (k.outstanding p) choice in
+      let End_on : Entries → ℕ → Type 0 = λ q word. SafeCall k s c n (changes_of s m) q (k.completed (placed s.listed) p i word) End in
+      named_reads (among s c) m (k.block p i) block verb End_on named (((ends_none (k.answer p) (End before l) _ none h).2 i verb e).1 m b)
 
   -- others' entries leave a call that goes on safe
   pub safe_longer : (n : ℕ) (l m : Entries) (p : k.Text) → Lengthened (MayFollow s) c l m → k.answer p ≡ None → SafeCall k s c n (changes_of s l) l p End → SafeCall k s c n (changes_of s m) m p End
@@ -109,7 +128,7 @@ module _ (k : Sort) (s : Setting) (c : ℕ) (End : Asked) where
     λ i v e. (
       (on.2 i v e).0,
       λ y b.
-          May-map (among s c) y v (λ q w. SafeCall k s c n (changes_of s y) q (k.completed (placed s.listed) p i w) End) (λ q w. SafeCall k s c most (changes_of s y) q (k.completed (placed s.listed) p i w) End)
+          MayDo-map (among s c) y (k.block p i) v (λ q w. SafeCall k s c n (changes_of s y) q (k.completed (placed s.listed) p i w) End) (λ q w. SafeCall k s c most (changes_of s y) q (k.completed (placed s.listed) p i w) End)
           (λ q w z. safe_more n most (changes_of s y) q (k.completed (placed s.listed) p i w) (omega arith) z) ((on.2 i v e).1 y b),
     ),
   )) h

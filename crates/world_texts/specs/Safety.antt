@@ -1,5 +1,6 @@
 -- Safe calls: whatever others add between its verbs, and whichever outstanding verb is done next, a call ends after so many
--- verbs, each of its entries may follow, none but that of its last verb changes the map, and its end holds.
+-- verbs, each of its entries may follow, a verb that names a block reads a word of it, which is published then, none but the
+-- entry of its last verb changes the map, and its end holds.
 use Rattle.std.specs.Prelude.{◌≡◌, ℕ, zero, suc, ◌<◌, ◌≤◌, ◌^◌, List, [], length, slice_get, Option, Some, None}
 use Rattle.key_hash.specs.Placing.{placed}
 use Rattle.kv_block.specs.declared.changes.Change.{Change}
@@ -7,7 +8,7 @@ use Rattle.map_model.specs.declared.calls.Call.{Call}
 use Rattle.map_model.specs.Machine.{key_of}
 use Rattle.verb_log.specs.declared.entry.Verb.{Verb}
 use Rattle.verbs.specs.Logs.{Entries, place_of, Lengthened, MayStand}
-use Rattle.verbs.specs.Terms.{May}
+use Rattle.verbs.specs.Terms.{MayDo}
 use Rattle.race_laws.specs.Setting.{Setting}
 use Rattle.race_laws.specs.Legal.{MayFollow}
 use Rattle.log_facts.specs.Among.{among, changes_of}
@@ -31,7 +32,7 @@ SafeCall k s c zero before l t End = Ends (k.answer t) (End before l) ⊥
 SafeCall k s c (suc n) before l t End = Ends (k.answer t) (End before l) (
     (changes_of s l ≡ before) × (1 ≤ length (k.outstanding t))
     × ((i : ℕ) (v : Verb) → slice_get (k.outstanding t) i ≡ Some v → (place_of v < s.geometry.words)
-    × ((m : Entries) → Lengthened (MayFollow s) c l m → May (among s c) m v (λ q word. SafeCall k s c n (changes_of s m) q (k.completed (placed s.listed) t i word) End))))
+    × ((m : Entries) → Lengthened (MayFollow s) c l m → MayDo (among s c) m (k.block t i) v (λ q word. SafeCall k s c n (changes_of s m) q (k.completed (placed s.listed) t i word) End))))
 
 -- a call of client c with this state, which saw the log `first` before its first verb, is answered rightly, and what it leaves of
 -- the client fits the log

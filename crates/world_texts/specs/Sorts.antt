@@ -12,6 +12,8 @@ pub record Sort : Type 1 where
   pub begun : (List ℕ → ℕ) → State → Call → Text
   -- the verbs that are outstanding, in the order in which they were posted; none exactly where the call has ended
   pub outstanding : Text → List Verb
+  -- the block of which the verb of this number among them reads a word; none where it reads none
+  pub block : Text → ℕ → Option ℕ
   -- what is left after the answer to the verb of this number among them
   pub completed : (List ℕ → ℕ) → Text → ℕ → ℕ → Text
   -- what the call has come to

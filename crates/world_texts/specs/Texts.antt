@@ -3,7 +3,7 @@
 use Rattle.std.specs.Prelude.{ℕ, suc, List}
 use Rattle.std.specs.Option.{option_to_list}
 use Rattle.map_model.specs.Machine.{key_of}
-use Rattle.verbs.specs.Programs.{do_verb, ask_hash, Prog, ret, ask, Go, next_verb, asked, after, goes_on, answer_of}
+use Rattle.verbs.specs.Programs.{do_verb, ask_hash, Prog, ret, ask, Go, next_verb, block_of, asked, after, goes_on, answer_of}
 use Rattle.call_texts.specs.State.{CallEnd, Stage}
 use Rattle.call_texts.specs.Text.{part_of, begin_call}
 use Rattle.world_texts.specs.Sorts.{Sort, Kind}
@@ -37,6 +37,7 @@ one_by_one = record {
   Text = Prog (Go Stage CallEnd);
   begun = λ hash state call. whole part_of hash (begin_call state (hash (key_of call)) call);
   outstanding = λ p. option_to_list (next_verb p);
+  block = λ p i. block_of p;
   completed = λ hash p i word. after_verb part_of hash p word;
   answer = answer_of;
 }
