@@ -5,3 +5,5 @@ mod Losing
 mod Runs
 mod Answered
 mod Fresh
+mod Passing
+mod Done

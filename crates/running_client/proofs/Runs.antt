@@ -29,11 +29,14 @@ use Rattle.world_texts.specs.Bound.{most_acts}
 use Rattle.world_texts.specs.Fits.{Fits}
 use Rattle.world_texts.specs.Safety.{Ends, SafeCall, EndsWell, AreSafe}
 use Rattle.world_texts.specs.Texts.{after_verb, one_by_one}
-use Rattle.world_texts.proofs.Steps.{safe_step, safe_place, safe_longer, safe_on, safe_end}
+use Rattle.world_texts.proofs.Steps.{safe_step, safe_place, safe_reads, safe_longer, safe_on, safe_end}
 use Rattle.world_texts.proofs.Wholes.{one_chosen}
-use Rattle.client_seat.specs.Seated.{Home, Seated, Does}
+use Rattle.client_seat.specs.Seated.{Home, Seated}
+use Rattle.block_cache.specs.Cache.{Cache}
+use Rattle.block_cache.specs.Keeps.{ReadsIts}
 use Rattle.running_client.specs.Traces.{Text, begun, ran_none, ran_more}
 use Rattle.running_client.specs.Points.{MadeNone, none_yet, Changed, Replied}
+use Rattle.running_client.specs.Cached.{AllKept}
 use Rattle.running_client.specs.Running.{Permitted, IsNext, IsRunning}
 use Rattle.running_client.proofs.Fronts.{changes_begin, none_begins, none_longer, none_next, next_begins}
 use Rattle.running_client.proofs.Texts.{verb_open}
@@ -73,12 +76,18 @@ module _ (s : Setting) (c : ℕ) (call : Call) (state : State) (first : Entries)
   }
 
   -- its next verb may be done
-  pub running_permits : (n : ℕ) (l : Entries) (p : Text) (t : List (Verb × ℕ)) (verb : Verb) → IsRunning s c call state first n l p t → next_verb p ≡ Some verb → (place_of verb < s.geometry.words) × Allowed (among s c) l verb
+  pub running_permits : (n : ℕ) (l : Entries) (p : Text) (t : List (Verb × ℕ)) (verb : Verb) → IsRunning s c call state first n l p t → next_verb p ≡ Some verb → (place_of verb < s.geometry.words) × Allowed (among s c) l verb × ReadsIts (among s c) l (block_of p) verb
   running_permits n l p t verb r e = (
     safe_place one_by_one s c (EndsWell s c call state first) n (changes_of s r.seen) l p 0 verb r.safe (verb_open p verb e) (sym (one_chosen (next_verb p) verb 0 e)),
     by n r.safe,
+    reads (block_of p) refl,
   )
     where
+      reads : (o : Option ℕ) → block_of p ≡ o → ReadsIts (among s c) l o verb
+      reads None is = tt
+      reads (Some block) is =
+          safe_reads one_by_one s c (EndsWell s c call state first) n (changes_of s r.seen) l l p 0 block verb r.safe (verb_open p verb e) (sym (one_chosen (next_verb p) verb 0 e)) is (lengthened-same (MayFollow s) c l r.legal)
+
       by : (n : ℕ) → SafeCall one_by_one s c n (changes_of s r.seen) l p (EndsWell s c call state first) → Allowed (among s c) l verb
       by zero h = absurd (ends_none (answer_of p) (EndsWell s c call state first (changes_of s r.seen) l) ⊥ (verb_open p verb e) h)
       by (suc n) h =
@@ -184,12 +193,19 @@ module _ (s : Setting) (c : ℕ) (call : Call) (state : State) (first : Entries)
           ((on.2 0 verb (first_there (next_verb p) verb e)).1 step.seen (lengthened-same (MayFollow s) c step.seen step.longer.0))) d
 
 -- of a seat that is still of the same memory and client
-pub permitted_as : (seat node : Seated) (verb : Verb) → node.home ≡ seat.home → node.client ≡ seat.client → (place_of verb < seat.home.setting.geometry.words) × Allowed (among seat.home.setting seat.client) node.front verb → Permitted node verb
-permitted_as seat node verb home client h =
-    subst (λ (x : Home). (place_of verb < x.setting.geometry.words) × Allowed (among x.setting node.client) node.front verb) (sym home)
-    (subst (λ (n : ℕ). (place_of verb < seat.home.setting.geometry.words) × Allowed (among seat.home.setting n) node.front verb) (sym client) h)
+pub permitted_as : (seat node : Seated) (block : Option ℕ) (verb : Verb) → node.home ≡ seat.home → node.client ≡ seat.client
+    → (place_of verb < seat.home.setting.geometry.words) × Allowed (among seat.home.setting seat.client) node.front verb × ReadsIts (among seat.home.setting seat.client) node.front block verb → Permitted node block verb
+permitted_as seat node block verb home client h =
+    let at = subst (λ (x : Home). (place_of verb < x.setting.geometry.words) × Allowed (among x.setting node.client) node.front verb × ReadsIts (among x.setting node.client) node.front block verb) (sym home)
+    (subst (λ (n : ℕ). (place_of verb < seat.home.setting.geometry.words) × Allowed (among seat.home.setting n) node.front verb × ReadsIts (among seat.home.setting n) node.front block verb) (sym client) h) in
+    record { place = at.0; rule = at.1; reads = at.2 }
 
-pub step_as : (seat node next : Seated) (verb : Verb) (word : ℕ) → node.home ≡ seat.home → node.client ≡ seat.client → Does verb node word next → Step (among seat.home.setting seat.client) node.front verb next.front word
-step_as seat node next verb word home client d =
-    subst (λ (n : ℕ). Step (among seat.home.setting n) node.front verb next.front word) client
-    (subst (λ (x : Home). Step (among x.setting node.client) node.front verb next.front word) home d.step)
+pub step_as : (seat node : Seated) (l : Entries) (verb : Verb) (word : ℕ) → node.home ≡ seat.home → node.client ≡ seat.client → Step (among node.home.setting node.client) node.front verb l word → Step (among seat.home.setting seat.client) node.front verb l word
+step_as seat node l verb word home client d =
+    subst (λ (n : ℕ). Step (among seat.home.setting n) node.front verb l word) client
+    (subst (λ (x : Home). Step (among x.setting node.client) node.front verb l word) home d)
+
+pub kept_as : (seat node : Seated) (l : Entries) (cache : Option Cache) → node.home ≡ seat.home → node.client ≡ seat.client → AllKept (among node.home.setting node.client) l cache → AllKept (among seat.home.setting seat.client) l cache
+kept_as seat node l cache home client k =
+    subst (λ (n : ℕ). AllKept (among seat.home.setting n) l cache) client
+    (subst (λ (x : Home). AllKept (among x.setting node.client) l cache) home k)

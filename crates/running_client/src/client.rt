@@ -1,11 +1,16 @@
 //! A client on running words.
-ghost use Rattle.std.specs.Prelude.{◌≡◌, ◌≤◌, IfOk, IfErr};
+ghost use Rattle.std.specs.Prelude.{◌≡◌, ◌≤◌, [], Some, None, IfOk, IfErr};
 ghost use Rattle.verbs.specs.Logs.{Lengthened, Begins};
 ghost use Rattle.race_laws.specs.Legal.{MayFollow};
 ghost use Rattle.call_machine.specs.Fresh.{fresh_state};
+ghost use Rattle.log_facts.specs.Among.{among};
+ghost use Rattle.block_cache.specs.declared.reading.Reading.TheVariants.{Idle};
 ghost use Rattle.running_client.specs.Called.{Called};
+ghost use Rattle.running_client.specs.Cached.{AllKept, saved_by};
+ghost use Rattle.running_client.specs.Through.{CalledThrough};
 
 use crate::call::do_call;
+use block_cache::BlockCache;
 use call_machine::{Answer, ClientState};
 use client_seat::{Memory, Note, Seat, TableNode};
 use key_hash::Placer;
@@ -16,12 +21,14 @@ use std::marker::Model;
 use whole_calls::law_states_fit;
 use world_texts::law_calls_in_worlds;
 
-/// One client on a running memory. A clause sees its seat and what it keeps from call to call.
+/// One client on a running memory. A clause sees its seat, what it keeps from call to call, and its cache of blocks, where it has
+/// one.
 #[derive(Drop)]
 pub struct Client<'a, P: Placer> {
     memory: &'a Memory<P>,
     node: TableNode<'a, P>,
     state: ClientState,
+    cache: Option<BlockCache>,
 }
 
 impl<'a, P: Placer> Model for Client<'a, P> {
@@ -29,14 +36,14 @@ impl<'a, P: Placer> Model for Client<'a, P> {
 
     ghost Value = { Serving };
 
-    ghost view = { λ c. record { seat = c.node; state = c.state } };
+    ghost view = { λ c. record { seat = c.node; state = c.state; cache = c.cache } };
 
-    ghost invariant = { λ c. IsServing c.memory.now c.node c.state };
+    ghost invariant = { λ c. IsServing c.memory.now c.node c.state c.cache };
 }
 
 impl<'a, P: Placer> Client<'a, P> {
     /// A client at a seat of this memory, whose calls may lose `tries` swaps each, 1 to 64. It knows no entry of the directory, has
-    /// no ticket, and no word in its area. A refusal hands the seat back.
+    /// no ticket, no word in its area, and no cache of blocks. A refusal hands the seat back.
     pub fn new(
         alloc: Global,
         memory: &'a Memory<P>,
@@ -46,7 +53,48 @@ impl<'a, P: Placer> Client<'a, P> {
         requires home { seat.home ≡ memory.now }
         requires some { 1 ≤ tries }
         requires few { tries ≤ 64 }
-        ensures made { IfOk result (λ client. client ≡ record { seat = seat; state = fresh_state seat.home.setting.geometry seat.client tries }) }
+        ensures made { IfOk result (λ client. client ≡ record { seat = seat; state = fresh_state seat.home.setting.geometry seat.client tries; cache = None }) }
+        ensures refused { IfErr result (λ refusal. refusal.1 ≡ seat) }
+    {
+        Client::seated(alloc, memory, seat, tries, None)
+    }
+
+    /// A client as `new` makes it, with a cache of so many blocks, 1 to 1,024, that keeps none. A refusal hands the seat back.
+    pub fn with_cache(
+        alloc: Global,
+        memory: &'a Memory<P>,
+        seat: Seat,
+        tries: u32,
+        blocks: u32,
+    ) -> Result<Client<'a, P>, (AllocError, Seat)>
+        requires home { seat.home ≡ memory.now }
+        requires some { 1 ≤ tries }
+        requires few { tries ≤ 64 }
+        requires some_blocks { 1 ≤ blocks }
+        requires few_blocks { blocks ≤ 1024 }
+        ensures made { IfOk result (λ client. client ≡ record { seat = seat; state = fresh_state seat.home.setting.geometry seat.client tries; cache = Some (record { kept = []; blocks = blocks; reading = Idle; saved = 0 }) }) }
+        ensures refused { IfErr result (λ refusal. refusal.1 ≡ seat) }
+    {
+        let cache = match BlockCache::make(alloc, blocks) {
+            Ok(cache) => cache,
+            Err(refusal) => return Err((refusal, seat)),
+        };
+        Client::seated(alloc, memory, seat, tries, Some(cache))
+    }
+
+    // A client at a seat of this memory, with this cache.
+    fn seated(
+        alloc: Global,
+        memory: &'a Memory<P>,
+        seat: Seat,
+        tries: u32,
+        cache: Option<BlockCache>,
+    ) -> Result<Client<'a, P>, (AllocError, Seat)>
+        requires home { seat.home ≡ memory.now }
+        requires some { 1 ≤ tries }
+        requires few { tries ≤ 64 }
+        requires keeps { AllKept (among seat.home.setting seat.client) seat.front cache }
+        ensures made { IfOk result (λ client. client ≡ record { seat = seat; state = fresh_state seat.home.setting.geometry seat.client tries; cache = cache }) }
         ensures refused { IfErr result (λ refusal. refusal.1 ≡ seat) }
     {
         law_states_fit();
@@ -61,19 +109,38 @@ impl<'a, P: Placer> Client<'a, P> {
             memory,
             node,
             state,
+            cache,
         })
+    }
+
+    /// How many reads the cache has served, and at most the greatest number of 64 bits; 0 without a cache.
+    pub fn saved(&self) -> u64
+        ensures { result ≡ saved_by self.now.cache }
+    {
+        match &self.cache {
+            Some(cache) => cache.saved(),
+            None => 0,
+        }
     }
 
     // Does a call, whatever others do meanwhile.
     fn call(&mut self, call: &Call) -> Answer
-        ensures { Called self.old.seat self.old.state call.now self.new.seat self.new.state result }
+        ensures called { self.old.cache ≡ None → Called self.old.seat self.old.state call.now self.new.seat self.new.state result }
+        ensures through { CalledThrough self.old.seat self.old.cache self.old.state call.now self.new.seat self.new.cache self.new.state result }
     {
-        do_call(self.memory, &mut self.node, &mut self.state, call)
+        do_call(
+            self.memory,
+            &mut self.node,
+            &mut self.cache,
+            &mut self.state,
+            call,
+        )
     }
 
     /// Searches a key. Found, with the block that was read, or Missing.
     pub fn search(&mut self, key: &Key) -> Answer
-        ensures { Called self.old.seat self.old.state (Call.Search key.now) self.new.seat self.new.state result }
+        ensures called { self.old.cache ≡ None → Called self.old.seat self.old.state (Call.Search key.now) self.new.seat self.new.state result }
+        ensures through { CalledThrough self.old.seat self.old.cache self.old.state (Call.Search key.now) self.new.seat self.new.cache self.new.state result }
     {
         self.call(&Call::Search { key: *key })
     }
@@ -82,7 +149,8 @@ impl<'a, P: Placer> Client<'a, P> {
     /// swaps were lost; FullDepth or FullWords, where no candidate is free and no split has room; NoBlock, where there is no room for
     /// the block.
     pub fn insert(&mut self, key: &Key, value: &Value) -> Answer
-        ensures { Called self.old.seat self.old.state (Call.Insert key.now value.now) self.new.seat self.new.state result }
+        ensures called { self.old.cache ≡ None → Called self.old.seat self.old.state (Call.Insert key.now value.now) self.new.seat self.new.state result }
+        ensures through { CalledThrough self.old.seat self.old.cache self.old.state (Call.Insert key.now value.now) self.new.seat self.new.cache self.new.state result }
     {
         self.call(&Call::Insert {
             key: *key,
@@ -93,7 +161,8 @@ impl<'a, P: Placer> Client<'a, P> {
     /// Replaces the value of a key. Updated, with the blocks before and after; Missing; Again, where `tries` swaps were lost;
     /// NoBlock, where there is no room for the block.
     pub fn update(&mut self, key: &Key, value: &Value) -> Answer
-        ensures { Called self.old.seat self.old.state (Call.Update key.now value.now) self.new.seat self.new.state result }
+        ensures called { self.old.cache ≡ None → Called self.old.seat self.old.state (Call.Update key.now value.now) self.new.seat self.new.state result }
+        ensures through { CalledThrough self.old.seat self.old.cache self.old.state (Call.Update key.now value.now) self.new.seat self.new.cache self.new.state result }
     {
         self.call(&Call::Update {
             key: *key,
@@ -103,7 +172,8 @@ impl<'a, P: Placer> Client<'a, P> {
 
     /// Removes a key. Deleted, with the block before; Missing; Again, where `tries` swaps were lost.
     pub fn delete(&mut self, key: &Key) -> Answer
-        ensures { Called self.old.seat self.old.state (Call.Delete key.now) self.new.seat self.new.state result }
+        ensures called { self.old.cache ≡ None → Called self.old.seat self.old.state (Call.Delete key.now) self.new.seat self.new.state result }
+        ensures through { CalledThrough self.old.seat self.old.cache self.old.state (Call.Delete key.now) self.new.seat self.new.cache self.new.state result }
     {
         self.call(&Call::Delete { key: *key })
     }
@@ -112,7 +182,8 @@ impl<'a, P: Placer> Client<'a, P> {
     /// split and its new depth; Again, where `tries` swaps were lost; FullDepth, where that table is as deep as may be; FullWords,
     /// where there is no room for a table.
     pub fn resize(&mut self, key: &Key) -> Answer
-        ensures { Called self.old.seat self.old.state (Call.Resize key.now) self.new.seat self.new.state result }
+        ensures called { self.old.cache ≡ None → Called self.old.seat self.old.state (Call.Resize key.now) self.new.seat self.new.state result }
+        ensures through { CalledThrough self.old.seat self.old.cache self.old.state (Call.Resize key.now) self.new.seat self.new.cache self.new.state result }
     {
         self.call(&Call::Resize { key: *key })
     }
@@ -137,6 +208,7 @@ impl<'a, P: Placer> Client<'a, P> {
         ensures client { self.new.seat.client ≡ self.old.seat.client }
         ensures home { self.new.seat.home ≡ self.old.seat.home }
         ensures state { self.new.state ≡ self.old.state }
+        ensures cache { self.new.cache ≡ self.old.cache }
     {
         law_calls_in_worlds();
         self.node.meet(note);
@@ -150,6 +222,7 @@ impl<'a, P: Placer> Client<'a, P> {
             memory: _,
             node,
             state: _,
+            cache: _,
         } = self;
         node.leave()
     }

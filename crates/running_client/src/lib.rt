@@ -14,8 +14,9 @@ mod call;
 mod client;
 mod drive;
 mod laws;
+mod through;
 
-pub use call::{Went, call_within};
+pub use call::{Went, call_through, call_within};
 pub use client::Client;
 pub use laws::law_met_is_seen;
 
