@@ -12,7 +12,7 @@ use Rattle.block_cache.specs.Cache.{Cache}
 use Rattle.world_texts.proofs.Bounds.{acts_few}
 use Rattle.running_client.specs.Traces.{begun}
 use Rattle.running_client.specs.Called.{Called, Stopped, CameTo}
-use Rattle.running_client.specs.Cached.{acts_of_call, Through}
+use Rattle.running_client.specs.Cached.{acts_of_call, went_all, Through}
 use Rattle.running_client.specs.Through.{CalledThrough, StoppedThrough, CameThrough}
 use Rattle.running_client.proofs.Passing.{verbs_acts}
 
@@ -85,3 +85,7 @@ came_plain seat state call most next after kept None verbs x = (stopped_plain se
 -- a client of which it is known that it has no cache
 pub called_alone : (seat : Seated) (cache : Option Cache) (state : State) (call : Call) (next : Seated) (after : Option Cache) (kept : State) (a : Answer) → CalledThrough seat cache state call next after kept a → cache ≡ None → Called seat state call next kept a
 called_alone seat cache state call next after kept a x e = called_plain seat state call next after kept a (subst (λ (o : Option Cache). CalledThrough seat o state call next after kept a) e x)
+
+-- it has none then
+pub stays_none : (seat : Seated) (cache : Option Cache) (state : State) (call : Call) (next : Seated) (after : Option Cache) (kept : State) (a : Answer) → CalledThrough seat cache state call next after kept a → cache ≡ None → after ≡ None
+stays_none seat cache state call next after kept a x e = x.through.goes_on ∙ ap (λ (o : Option Cache). went_all o (acts_of_call seat.home.setting state call x.called.trace)) e

@@ -126,6 +126,7 @@ impl<'a, P: Placer> Client<'a, P> {
     // Does a call, whatever others do meanwhile.
     fn call(&mut self, call: &Call) -> Answer
         ensures called { self.old.cache ≡ None → Called self.old.seat self.old.state call.now self.new.seat self.new.state result }
+        ensures none { self.old.cache ≡ None → self.new.cache ≡ None }
         ensures through { CalledThrough self.old.seat self.old.cache self.old.state call.now self.new.seat self.new.cache self.new.state result }
     {
         do_call(
@@ -140,6 +141,7 @@ impl<'a, P: Placer> Client<'a, P> {
     /// Searches a key. Found, with the block that was read, or Missing.
     pub fn search(&mut self, key: &Key) -> Answer
         ensures called { self.old.cache ≡ None → Called self.old.seat self.old.state (Call.Search key.now) self.new.seat self.new.state result }
+        ensures none { self.old.cache ≡ None → self.new.cache ≡ None }
         ensures through { CalledThrough self.old.seat self.old.cache self.old.state (Call.Search key.now) self.new.seat self.new.cache self.new.state result }
     {
         self.call(&Call::Search { key: *key })
@@ -150,6 +152,7 @@ impl<'a, P: Placer> Client<'a, P> {
     /// the block.
     pub fn insert(&mut self, key: &Key, value: &Value) -> Answer
         ensures called { self.old.cache ≡ None → Called self.old.seat self.old.state (Call.Insert key.now value.now) self.new.seat self.new.state result }
+        ensures none { self.old.cache ≡ None → self.new.cache ≡ None }
         ensures through { CalledThrough self.old.seat self.old.cache self.old.state (Call.Insert key.now value.now) self.new.seat self.new.cache self.new.state result }
     {
         self.call(&Call::Insert {
@@ -162,6 +165,7 @@ impl<'a, P: Placer> Client<'a, P> {
     /// NoBlock, where there is no room for the block.
     pub fn update(&mut self, key: &Key, value: &Value) -> Answer
         ensures called { self.old.cache ≡ None → Called self.old.seat self.old.state (Call.Update key.now value.now) self.new.seat self.new.state result }
+        ensures none { self.old.cache ≡ None → self.new.cache ≡ None }
         ensures through { CalledThrough self.old.seat self.old.cache self.old.state (Call.Update key.now value.now) self.new.seat self.new.cache self.new.state result }
     {
         self.call(&Call::Update {
@@ -173,6 +177,7 @@ impl<'a, P: Placer> Client<'a, P> {
     /// Removes a key. Deleted, with the block before; Missing; Again, where `tries` swaps were lost.
     pub fn delete(&mut self, key: &Key) -> Answer
         ensures called { self.old.cache ≡ None → Called self.old.seat self.old.state (Call.Delete key.now) self.new.seat self.new.state result }
+        ensures none { self.old.cache ≡ None → self.new.cache ≡ None }
         ensures through { CalledThrough self.old.seat self.old.cache self.old.state (Call.Delete key.now) self.new.seat self.new.cache self.new.state result }
     {
         self.call(&Call::Delete { key: *key })
@@ -183,6 +188,7 @@ impl<'a, P: Placer> Client<'a, P> {
     /// where there is no room for a table.
     pub fn resize(&mut self, key: &Key) -> Answer
         ensures called { self.old.cache ≡ None → Called self.old.seat self.old.state (Call.Resize key.now) self.new.seat self.new.state result }
+        ensures none { self.old.cache ≡ None → self.new.cache ≡ None }
         ensures through { CalledThrough self.old.seat self.old.cache self.old.state (Call.Resize key.now) self.new.seat self.new.cache self.new.state result }
     {
         self.call(&Call::Resize { key: *key })
