@@ -187,7 +187,7 @@ pub looks_home : (keys : List (List ℕ)) (begin : Seated) (first : State) (last
 looks_home keys begin first last pairs h = (lives_seat (searches keys) begin first (length keys) last h.kept h.answers h.lives).0
 
 -- .. which was fresh
-pub looks_from : (keys : List (List ℕ)) (client : Serving) (seat : Seated) (tries : ℕ) (home : Home) (last : Seated) (pairs : Contents) → client ≡ record { seat = seat; state = fresh_state seat.home.setting.geometry seat.client tries } → seat.home ≡ home
+pub looks_from : (keys : List (List ℕ)) (client : Serving) (seat : Seated) (tries : ℕ) (home : Home) (last : Seated) (pairs : Contents) → client ≡ record { seat = seat; state = fresh_state seat.home.setting.geometry seat.client tries; cache = None } → seat.home ≡ home
     → Looks keys client.seat client.state last pairs → Looks keys seat (fresh_state home.setting.geometry seat.client tries) last pairs
 looks_from keys client seat tries home last pairs made here h =
     subst (λ (x : Home). Looks keys seat (fresh_state x.setting.geometry seat.client tries) last pairs) here (subst (λ (x : Serving). Looks keys x.seat x.state last pairs) made h)

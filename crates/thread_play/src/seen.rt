@@ -1,5 +1,5 @@
 //! One client more, which looks when all others have ended.
-ghost use Rattle.std.specs.Prelude.{◌≡◌, ◌<◌, ◌≤◌, ℕ, [], length, vec_len, slice_index_or, IfOk, OnOk};
+ghost use Rattle.std.specs.Prelude.{◌≡◌, ◌<◌, ◌≤◌, ℕ, [], None, length, vec_len, slice_index_or, IfOk, OnOk};
 ghost use Rattle.std.specs.FinMap as fin;
 ghost use Rattle.client_seat.specs.Seated.{Seated};
 ghost use Rattle.running_play.specs.declared.worker.Worked.{Worked};
@@ -54,7 +54,8 @@ fn learn<'a>(
     keys: &[Key],
     map: &mut MapMachine,
 ) -> Result<(), AllocError>
-    requires { map.old ≡ fin.empty }
+    requires none { client.old.cache ≡ None }
+    requires empty { map.old ≡ fin.empty }
     ensures { OnOk result (Looks keys.now client.old.seat client.old.state client.new.seat map.new) }
 {
     for i in 0..keys.len() {

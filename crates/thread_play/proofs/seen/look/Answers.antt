@@ -25,3 +25,6 @@ returns c = (
   reads_from c.learn.new.client.seat c.of-node.result c.geometry-geometry.result c.args.memory.now.setting.geometry c.read_nexts-next.new.node c.leave-2.result c.read_nexts-next.result
       (c.of-node.ensures.seat ∙ c.leave.ensures) c.geometry-geometry.ensures c.leave-2.ensures c.read_nexts-next.ensures,
 )
+
+pub learn-requires-clause-none : goal.learn-requires-clause-none
+learn-requires-clause-none c = ap (λ (x : Serving). x.cache) c.in-Ok.ensures.made
