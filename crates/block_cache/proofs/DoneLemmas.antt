@@ -14,7 +14,7 @@ use Rattle.block_cache.specs.Saved.{Readings, among, words_read, acts_of, reads_
 use Rattle.block_cache.proofs.KeptLemmas.{all_found}
 use Rattle.block_cache.proofs.SavedLemmas.{eq_self, serve_next, serve_first, take_word, take_next, taken_more, among_found, begun_first, has_next, read_whole}
 
-done_append : (xs ys : List (Act × ℕ)) (c : Cache) → done_of c (xs ++ ys) ≡ done_of c xs ++ done_of (went_acts c xs) ys
+pub done_append : (xs ys : List (Act × ℕ)) (c : Cache) → done_of c (xs ++ ys) ≡ done_of c xs ++ done_of (went_acts c xs) ys
 done_append [] ys c = refl
 done_append (x ∷ xs) ys c =
     ap (λ zs. done_by c x.0 x.1 ++ zs) (done_append xs ys (went_act c x.0 x.1))

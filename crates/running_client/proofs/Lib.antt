@@ -7,3 +7,4 @@ mod Answered
 mod Fresh
 mod Passing
 mod Done
+mod Saved

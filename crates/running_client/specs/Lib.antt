@@ -4,5 +4,6 @@ pub mod Points
 pub mod Called
 pub mod Cached
 pub mod Through
+pub mod Saving
 pub mod Served
 pub mod Running

@@ -1,12 +1,12 @@
 //! A client on running words.
-ghost use Rattle.std.specs.Prelude.{◌≡◌, ◌≤◌, [], Some, None, IfOk, IfErr};
+ghost use Rattle.std.specs.Prelude.{◌≡◌, ◌≤◌, Some, None, IfOk, IfErr};
 ghost use Rattle.verbs.specs.Logs.{Lengthened, Begins};
 ghost use Rattle.race_laws.specs.Legal.{MayFollow};
 ghost use Rattle.call_machine.specs.Fresh.{fresh_state};
 ghost use Rattle.log_facts.specs.Among.{among};
-ghost use Rattle.block_cache.specs.declared.reading.Reading.TheVariants.{Idle};
 ghost use Rattle.running_client.specs.Called.{Called};
 ghost use Rattle.running_client.specs.Cached.{AllKept, saved_by};
+ghost use Rattle.running_client.specs.Saving.{empty_cache};
 ghost use Rattle.running_client.specs.Through.{CalledThrough};
 
 use crate::call::do_call;
@@ -72,7 +72,7 @@ impl<'a, P: Placer> Client<'a, P> {
         requires few { tries ≤ 64 }
         requires some_blocks { 1 ≤ blocks }
         requires few_blocks { blocks ≤ 1024 }
-        ensures made { IfOk result (λ client. client ≡ record { seat = seat; state = fresh_state seat.home.setting.geometry seat.client tries; cache = Some (record { kept = []; blocks = blocks; reading = Idle; saved = 0 }) }) }
+        ensures made { IfOk result (λ client. client ≡ record { seat = seat; state = fresh_state seat.home.setting.geometry seat.client tries; cache = Some (empty_cache blocks) }) }
         ensures refused { IfErr result (λ refusal. refusal.1 ≡ seat) }
     {
         let cache = match BlockCache::make(alloc, blocks) {

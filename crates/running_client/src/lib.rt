@@ -18,7 +18,7 @@ mod through;
 
 pub use call::{Went, call_through, call_within};
 pub use client::Client;
-pub use laws::law_met_is_seen;
+pub use laws::{law_met_is_seen, law_saved_over_calls};
 
 #[cfg(test)]
 mod tests;

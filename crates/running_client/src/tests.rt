@@ -21,6 +21,24 @@ fn client_at<'a>(alloc: Global, memory: &'a Memory<Mixed>, seat: Seat) -> Option
     }
 }
 
+// The same, with a cache of so many blocks.
+fn cached_at<'a>(
+    alloc: Global,
+    memory: &'a Memory<Mixed>,
+    seat: Seat,
+    blocks: u32,
+) -> Option<Client<'a, Mixed>>
+    requires home { seat.home ≡ memory.now }
+    requires some { 1 ≤ blocks }
+    requires few { blocks ≤ 1024 }
+    ensures { IfSome result (λ client. client.seat ≡ seat) }
+{
+    match Client::with_cache(alloc, memory, seat, 3, blocks) {
+        Ok(client) => Some(client),
+        Err(_refused) => None,
+    }
+}
+
 // Each call of one client, on a table that may not be split.
 #[test]
 fn each_call_once(rt: HostRuntime) -> Result<(), Fail> {
@@ -61,5 +79,31 @@ fn found_after_a_meeting(rt: HostRuntime) -> Result<(), Fail> {
     assert_eq!(rt; found.reply, Reply::Found(value));
     assert_eq!(rt; found.from, added.to);
     assert_eq!(rt; found.to, added.to);
+    Ok(())
+}
+
+// The block of a short pair has three words: one of lengths, one of the key and one of the value. A search of a kept block serves them.
+#[test]
+fn a_kept_block_is_served(rt: HostRuntime) -> Result<(), Fail> {
+    let geometry = Geometry::check(1, 0, 0, 1, 200)?;
+    let (memory, mut seats) = Memory::make(rt.alloc(), geometry, Mixed, 1)?;
+    let key = Key::from_bytes(b"k").ok_or("no key")?;
+    let other = Key::from_bytes(b"m").ok_or("no key")?;
+    let value = Value::from_bytes(b"1").ok_or("no value")?;
+    let seat = seats.take().ok_or("no seat")?;
+    let mut client = cached_at(rt.alloc(), &memory, seat, 1).ok_or("no memory")?;
+    assert_eq!(rt; client.insert(&key, &value).reply, Reply::Inserted);
+    assert_eq!(rt; client.insert(&other, &value).reply, Reply::Inserted);
+    assert_eq!(rt; client.saved(), 0);
+    assert_eq!(rt; client.search(&key).reply, Reply::Found(value));
+    assert_eq!(rt; client.saved(), 0);
+    assert_eq!(rt; client.search(&key).reply, Reply::Found(value));
+    assert_eq!(rt; client.saved(), 3);
+    assert_eq!(rt; client.search(&other).reply, Reply::Found(value));
+    assert_eq!(rt; client.search(&key).reply, Reply::Found(value));
+    assert_eq!(rt; client.saved(), 3);
+    assert_eq!(rt; client.update(&key, &value).reply, Reply::Updated(value));
+    assert_eq!(rt; client.saved(), 6);
+    assert_eq!(rt; client.leave().number(), 0);
     Ok(())
 }
