@@ -1,13 +1,12 @@
 -- A client's acts with a cache or without: one act more.
-use Rattle.std.specs.Prelude.{◌≡◌, ◌≢◌, ℕ, ◌≤◌, List, [], ◌∷◌, ◌++◌, length, Option, Some, None, IsSome, true, false, refl}
-use Rattle.std.specs.List.{AllByRecursion}
-use Rattle.std.proofs.Common.{sym, ◌∙◌, ap, subst, inl, inr, arith, append-nil, append_assoc, length-append}
+use Rattle.std.specs.Prelude.{◌≡◌, ℕ, ◌≤◌, List, [], ◌∷◌, ◌++◌, length, Option, Some, None, IsSome, refl}
+use Rattle.std.proofs.Common.{sym, ◌∙◌, ap, subst, inl, inr, arith, append-nil, length-append}
 use Rattle.std.proofs.lemmas.Bool.{cases_eq}
 use Rattle.verb_log.specs.declared.entry.Verb.{Verb}
 use Rattle.verb_log.specs.declared.entry.Verb.TheVariants.{Read, Write, Swap}
 use Rattle.node_words.specs.declared.geometry.Geometry.{Geometry}
-use Rattle.verbs.specs.Programs.{Act, do_verb, ask_hash, ret, ask, again, done, Go, next_act, next_verb, block_of, asked, answer_of, with_verb, verbs_of}
-use Rattle.verbs.specs.Logs.{Entries, Begins, Did, word, place_of}
+use Rattle.verbs.specs.Programs.{Act, do_verb, ask_hash, ret, ask, again, done, Go, next_act, block_of, asked, answer_of, verbs_of}
+use Rattle.verbs.specs.Logs.{Entries, Begins, Did, word}
 use Rattle.verbs.specs.Terms.{Terms, BlocksLast, Step}
 use Rattle.verbs.proofs.Growth.{longer-begins, begins-then}
 use Rattle.verbs.proofs.Progs.{verbs_of-append}
@@ -19,10 +18,9 @@ use Rattle.client_seat.specs.Traces.{Stood, AreAt, verbs_in}
 use Rattle.client_seat.proofs.Traces.{are_at-longer, are_at-push}
 use Rattle.call_texts.specs.State.{CallEnd, Stage}
 use Rattle.call_texts.specs.Text.{part_of}
-use Rattle.block_cache.specs.declared.recent.KeptBlock.{KeptBlock}
 use Rattle.block_cache.specs.declared.reading.Reading.{Reading}
 use Rattle.block_cache.specs.declared.reading.Reading.TheVariants.{Idle, Serving, Taking}
-use Rattle.block_cache.specs.Cache.{Cache, went_acts, done_of}
+use Rattle.block_cache.specs.Cache.{Cache}
 use Rattle.block_cache.specs.Keeps.{IsPublished, UnderWay, Keeps}
 use Rattle.block_cache.proofs.KeptLemmas.{all_to, went_more, done_more}
 use Rattle.world_texts.specs.Texts.{whole, after_verb}

@@ -1,16 +1,15 @@
 -- What a client's cache saves over its calls.
-use Rattle.std.specs.Prelude.{◌≡◌, ℕ, ◌+◌, ◌-◌, ◌^◌, ◌≤◌, min, List, [], ◌∷◌, ◌++◌, Option, Some, None, refl}
-use Rattle.std.proofs.Common.{sym, ◌∙◌, ap, subst, arith, append_assoc}
+use Rattle.std.specs.Prelude.{◌≡◌, ℕ, ◌+◌, ◌-◌, ◌^◌, ◌≤◌, min, List, [], ◌++◌, Option, Some, None, refl}
+use Rattle.std.proofs.Common.{sym, ◌∙◌, ap, arith, append_assoc}
 use Rattle.verb_log.specs.declared.entry.Verb.{Verb}
 use Rattle.verbs.specs.Programs.{Act}
 use Rattle.verbs.proofs.Progs.{verbs_of-append}
 use Rattle.client_seat.specs.Traces.{verbs_in}
-use Rattle.client_seat.specs.Seated.{Seated}
-use Rattle.block_cache.specs.Cache.{Cache, went_act, went_acts, done_by, done_of}
-use Rattle.block_cache.specs.Saved.{Readings, HasWordsOf, AreReadings, acts_of, block_acts, saved_over, left_over, CountsSaved, DoesLeft}
+use Rattle.block_cache.specs.Cache.{Cache, done_of}
+use Rattle.block_cache.specs.Saved.{HasWordsOf, saved_over, CountsSaved, DoesLeft}
 use Rattle.block_cache.proofs.DoneLemmas.{done_append}
 use Rattle.block_cache.proofs.SavedLemmas.{went_append}
-use Rattle.running_client.specs.Cached.{went_all, done_all, saved_by, Through}
+use Rattle.running_client.specs.Cached.{went_all, done_all, saved_by}
 use Rattle.running_client.specs.Saving.{empty_cache, GoOnThrough, SavesOver, DoesOver}
 use Rattle.running_client.proofs.Runs.{kept_as}
 

@@ -5,7 +5,8 @@
 //! no memory, wait for nobody and return. `specs/Called.antt` says what each of them does: its verbs are those of the call's text,
 //! no more than its bound; its answer is the text's, and is right at a point between the front before it and the front after it;
 //! and where it changes the map, it does so by its last entry alone. A note of what a client has seen goes to another client by a
-//! meeting. That calls are safe is the law of `world_texts`, the same as in worlds; the crate stands on it, on `call_machine` and
+//! meeting. A client may have a cache of blocks (`block_cache`), from which reads of blocks are served: `specs/Through.antt` says what its
+//! calls do, with the served reads in their traces. That calls are safe is the law of `world_texts`, the same as in worlds; the crate stands on it, on `call_machine` and
 //! on `client_seat`. The rule is written in docs/RUNNING.md.
 #![tactic(auto)]
 

@@ -1,5 +1,5 @@
 //! Clients of one memory, each call once.
-ghost use Rattle.std.specs.Prelude.{◌≡◌, IfSome};
+ghost use Rattle.std.specs.Prelude.{◌≡◌, ◌≤◌, IfSome};
 
 use crate::Client;
 use client_seat::{Memory, Seat};

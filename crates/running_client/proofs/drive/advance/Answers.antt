@@ -1,6 +1,5 @@
-use Rattle.std.proofs.Common.{◌≡◌, ℕ, Option, ◌∙◌, sym, ap, subst, refl}
+use Rattle.std.proofs.Common.{ℕ, Option, ◌∙◌, sym, ap, subst, refl}
 use Rattle.key_hash.specs.Placing.{placed}
-use Rattle.verbs.specs.Programs.{block_of}
 use Rattle.call_texts.specs.State.{CallEnd, Stage}
 use Rattle.call_texts.specs.Text.{part_of}
 use Rattle.call_machine.specs.CallRest.{call_rest}

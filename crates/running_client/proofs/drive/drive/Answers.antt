@@ -1,20 +1,17 @@
-use Rattle.std.proofs.Common.{rules, ◌++◌, [], ◌∷◌, ℕ, List, Option, sym, ap, subst, refl, inl, inr, ◌∙◌, append_assoc, append-nil, length-append, arith}
+use Rattle.std.proofs.Common.{rules, ◌++◌, [], ◌∷◌, Option, sym, ap, subst, refl, inl, inr, ◌∙◌, append-nil, length-append, arith}
 use Rattle.std.specs.Prelude.{IsSome}
 use Rattle.key_hash.specs.Placing.{Pairs, placed}
-use Rattle.verb_log.specs.declared.entry.Verb.{Verb}
 use Rattle.verbs.specs.Logs.{MayStand}
 use Rattle.verbs.specs.Programs.{answer_of, block_of}
 use Rattle.verbs.proofs.Growth.{begins-then}
 use Rattle.race_laws.specs.Legal.{MayFollow}
-use Rattle.log_facts.specs.Among.{among}
 use Rattle.client_seat.specs.Seated.{Home, Seated}
 use Rattle.call_texts.specs.Text.{part_of}
 use Rattle.call_machine.specs.declared.call.CallMachine.{CallMachine}
 use Rattle.block_cache.specs.Cache.{Cache}
 use Rattle.world_texts.specs.Bound.{most_acts}
 use Rattle.world_texts.specs.Texts.{after_verb}
-use Rattle.running_client.specs.Traces.{Text, begun, text}
-use Rattle.running_client.specs.Cached.{AllKept, acts_of_call, Through, Filled}
+use Rattle.running_client.specs.Traces.{Text, text}
 use Rattle.running_client.specs.Running.{IsRunning, Came}
 use Rattle.running_client.proofs.Runs.{running_permits, running_step, permitted_as, step_as, kept_as}
 use Rattle.running_client.proofs.Passing.{filled_more}
