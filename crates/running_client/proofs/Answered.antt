@@ -37,7 +37,7 @@ answers_within seat cache state call next after kept None verbs e few came =
     omega arith
 
 -- with no cache the trace has all verbs
-all_done : (seat : Seated) (state : State) (call : Call) (trace : List (Verb × ℕ)) (next : Seated) (after : Option Cache) → Through seat None (acts_of_call seat.home.setting state call trace) next after → verbs_in next.trace ≡ verbs_in seat.trace ++ trace
+pub all_done : (seat : Seated) (state : State) (call : Call) (trace : List (Verb × ℕ)) (next : Seated) (after : Option Cache) → Through seat None (acts_of_call seat.home.setting state call trace) next after → verbs_in next.trace ≡ verbs_in seat.trace ++ trace
 all_done seat state call trace next after t =
     let hash = placed seat.home.setting.listed in
     t.done ∙ ap (λ (v : List (Verb × ℕ)). verbs_in seat.trace ++ v) (verbs_acts hash (begun hash state call) trace)

@@ -2,9 +2,9 @@ pub mod Fronts
 mod Texts
 mod Answering
 mod Losing
-mod Runs
-mod Answered
+pub mod Runs
+pub mod Answered
 mod Fresh
 mod Passing
-mod Done
+pub mod Done
 mod Saved

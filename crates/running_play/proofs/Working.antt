@@ -39,20 +39,20 @@ length_verbs [] = refl
 length_verbs (d ∷ deeds) = ap suc (length_verbs deeds)
 
 -- the verbs of a call lengthen the trace
-longer_trace : (seat next : Seated) (t : List (Verb × ℕ)) → verbs_in next.trace ≡ verbs_in seat.trace ++ t → length next.trace ≡ length seat.trace + length t
+pub longer_trace : (seat next : Seated) (t : List (Verb × ℕ)) → verbs_in next.trace ≡ verbs_in seat.trace ++ t → length next.trace ≡ length seat.trace + length t
 longer_trace seat next t e =
     sym (length_verbs next.trace) ∙ ap length e ∙ length-append (verbs_in seat.trace) t ∙ ap (λ (n : ℕ). n + length t) (length_verbs seat.trace)
 
-lines_push : (c n : ℕ) (answers : List Answer) (a : Answer) → lines_of c n (answers ++ a ∷ []) ≡ lines_of c n answers ++ line_of c (length answers + n) (Some a) ∷ []
+pub lines_push : (c n : ℕ) (answers : List Answer) (a : Answer) → lines_of c n (answers ++ a ∷ []) ≡ lines_of c n answers ++ line_of c (length answers + n) (Some a) ∷ []
 lines_push c n [] a = ap (λ (k : ℕ). line_of c k (Some a) ∷ []) (omega arith)
 lines_push c n (x ∷ answers) a = ap (λ l. line_of c n (Some x) ∷ l) (lines_push c (n + 1) answers a ∙ ap (λ (k : ℕ). lines_of c (n + 1) answers ++ line_of c k (Some a) ∷ []) (omega arith))
 
-none_done : (stop : Option ℕ) (verbs : ℕ) → verbs ≡ 0 → IsLeft stop stop verbs
+pub none_done : (stop : Option ℕ) (verbs : ℕ) → verbs ≡ 0 → IsLeft stop stop verbs
 none_done None verbs none = tt
 none_done (Some n) verbs none = omega arith
 
 -- before its first call
-pub living_none : (calls : List Call) (stop : Option ℕ) (begin : Seated) (first : State) (lines : List Line) → begin.trace ≡ [] → lines ≡ [] → Living calls stop stop begin first 0 begin first lines
+unfoldable pub living_none : (calls : List Call) (stop : Option ℕ) (begin : Seated) (first : State) (lines : List Line) → begin.trace ≡ [] → lines ≡ [] → Living calls stop stop begin first 0 begin first lines
 living_none calls stop begin first lines none empty = record {
   answers = [];
   lives = lives_none;
@@ -62,31 +62,31 @@ living_none calls stop begin first lines none empty = record {
   left_is = none_done stop (length begin.trace) (ap length none);
 }
 
-left_more : (stop left : Option ℕ) (before verbs most : ℕ) → IsLeft stop left before → MatchOption left (most ≡ 2 ^ 40) (λ n. most ≡ n) → verbs ≤ most → IsLeft stop (less_by left verbs) (before + verbs)
+pub left_more : (stop left : Option ℕ) (before verbs most : ℕ) → IsLeft stop left before → MatchOption left (most ≡ 2 ^ 40) (λ n. most ≡ n) → verbs ≤ most → IsLeft stop (less_by left verbs) (before + verbs)
 left_more None None before verbs most h m few = tt
 left_more None (Some left) before verbs most h m few = absurd h
 left_more (Some n) None before verbs most h m few = absurd h
 left_more (Some n) (Some left) before verbs most h m few = omega arith
 
-some_number : (a b : ℕ) → Some a ≡ Some b → a ≡ b
+pub some_number : (a b : ℕ) → Some a ≡ Some b → a ≡ b
 some_number a b e = cc
 
-stopped_at : (stop : Option ℕ) (verbs : ℕ) → IsLeft stop (Some 0) verbs → stop ≡ Some verbs
+pub stopped_at : (stop : Option ℕ) (verbs : ℕ) → IsLeft stop (Some 0) verbs → stop ≡ Some verbs
 stopped_at None verbs h = absurd h
 stopped_at (Some n) verbs h = ap (λ (k : ℕ). Some k) (omega arith)
 
-most_by : (stop left : Option ℕ) (verbs : ℕ) → IsLeft stop left verbs → (n : ℕ) → stop ≡ Some n → verbs ≤ n
+pub most_by : (stop left : Option ℕ) (verbs : ℕ) → IsLeft stop left verbs → (n : ℕ) → stop ≡ Some n → verbs ≤ n
 most_by None left verbs h n e = absurd (cc)
 most_by (Some m) None verbs h n e = absurd h
 most_by (Some m) (Some left) verbs h n e = let same = some_number m n e in omega arith
 
 -- a call that may be begun may do a verb
-some_verbs : (left : Option ℕ) (most : ℕ) → MatchOption left (most ≡ 2 ^ 40) (λ n. most ≡ n) → ((n : ℕ) → left ≡ Some n → 1 ≤ n) → 1 ≤ most
+pub some_verbs : (left : Option ℕ) (most : ℕ) → MatchOption left (most ≡ 2 ^ 40) (λ n. most ≡ n) → ((n : ℕ) → left ≡ Some n → 1 ≤ n) → 1 ≤ most
 some_verbs None most m some = omega arith
 some_verbs (Some n) most m some = let one = some n refl in omega arith
 
 -- a call that was left has used up the verbs of a client that stops
-used_up : (stop left : Option ℕ) (before verbs most : ℕ) → IsLeft stop left before → MatchOption left (most ≡ 2 ^ 40) (λ n. most ≡ n) → verbs ≡ most → verbs < 2 ^ 40 → stop ≡ Some (before + verbs)
+pub used_up : (stop left : Option ℕ) (before verbs most : ℕ) → IsLeft stop left before → MatchOption left (most ≡ 2 ^ 40) (λ n. most ≡ n) → verbs ≡ most → verbs < 2 ^ 40 → stop ≡ Some (before + verbs)
 used_up None None before verbs most h m is few = absurd (omega arith)
 used_up None (Some left) before verbs most h m is few = absurd h
 used_up (Some n) None before verbs most h m is few = absurd h
@@ -94,7 +94,7 @@ used_up (Some n) (Some left) before verbs most h m is few = ap (λ (k : ℕ). So
 
 module _ (calls : List Call) (stop : Option ℕ) (begin : Seated) (first : State) where
   -- a call more
-  pub living_more : (left : Option ℕ) (i : ℕ) (seat next : Seated) (state kept : State) (call : Call) (a : Answer) (most verbs number : ℕ) (lines more : List Line) → Living calls stop left begin first i seat state lines → slice_get calls i ≡ Some call
+  unfoldable pub living_more : (left : Option ℕ) (i : ℕ) (seat next : Seated) (state kept : State) (call : Call) (a : Answer) (most verbs number : ℕ) (lines more : List Line) → Living calls stop left begin first i seat state lines → slice_get calls i ≡ Some call
       → MatchOption left (most ≡ 2 ^ 40) (λ n. most ≡ n) → CameTo seat state call most next kept (Some a) verbs → number ≡ i + 1 → more ≡ lines ++ line_of begin.client number (Some a) ∷ []
       → Living calls stop (less_by left verbs) begin first (i + 1) next kept more
   living_more left i seat next state kept call a most verbs number lines more h at m came count told =
@@ -113,7 +113,7 @@ module _ (calls : List Call) (stop : Option ℕ) (begin : Seated) (first : State
       }
 
   -- no verb is left
-  pub done_stopped : (i : ℕ) (seat : Seated) (state : State) (lines : List Line) → Living calls stop (Some 0) begin first i seat state lines → HasDone calls stop begin first seat lines
+  unfoldable pub done_stopped : (i : ℕ) (seat : Seated) (state : State) (lines : List Line) → Living calls stop (Some 0) begin first i seat state lines → HasDone calls stop begin first seat lines
   done_stopped i seat state lines h = record {
     answered = i;
     last = seat;
@@ -128,7 +128,7 @@ module _ (calls : List Call) (stop : Option ℕ) (begin : Seated) (first : State
   }
 
   -- each call is answered
-  pub done_all : (left : Option ℕ) (i : ℕ) (seat : Seated) (state : State) (lines : List Line) → i ≡ length calls → Living calls stop left begin first i seat state lines → HasDone calls stop begin first seat lines
+  unfoldable pub done_all : (left : Option ℕ) (i : ℕ) (seat : Seated) (state : State) (lines : List Line) → i ≡ length calls → Living calls stop left begin first i seat state lines → HasDone calls stop begin first seat lines
   done_all left i seat state lines all h = record {
     answered = i;
     last = seat;
@@ -143,7 +143,7 @@ module _ (calls : List Call) (stop : Option ℕ) (begin : Seated) (first : State
   }
 
   -- a call was left
-  pub done_open : (left : Option ℕ) (i : ℕ) (seat next : Seated) (state kept : State) (call : Call) (most verbs number : ℕ) (lines more : List Line) → state.tries ≤ 64 → Living calls stop left begin first i seat state lines → slice_get calls i ≡ Some call
+  unfoldable pub done_open : (left : Option ℕ) (i : ℕ) (seat next : Seated) (state kept : State) (call : Call) (most verbs number : ℕ) (lines more : List Line) → state.tries ≤ 64 → Living calls stop left begin first i seat state lines → slice_get calls i ≡ Some call
       → MatchOption left (most ≡ 2 ^ 40) (λ n. most ≡ n) → ((n : ℕ) → left ≡ Some n → 1 ≤ n) → CameTo seat state call most next kept None verbs → number ≡ i + 1 → more ≡ lines ++ line_of begin.client number None ∷ []
       → HasDone calls stop begin first next more
   done_open left i seat next state kept call most verbs number lines more tries h at m some came count told =

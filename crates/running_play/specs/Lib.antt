@@ -2,3 +2,4 @@ pub mod Worked
 pub mod Dealt
 pub mod Gathered
 pub mod GivenBack
+pub mod Cached

@@ -3,15 +3,19 @@ ghost use Rattle.std.specs.Prelude.{◌≡◌, ◌<◌, ◌≤◌, ◌+◌, ◌-
 ghost use Rattle.verbs.specs.Logs.{MayStand};
 ghost use Rattle.race_laws.specs.Legal.{MayFollow};
 ghost use Rattle.world_texts.specs.Fits.{Fits};
-ghost use Rattle.running_play.specs.Worked.{line_of, tag_of, less_by, HasDone, MayWork, HasWorked};
+ghost use Rattle.log_facts.specs.Among.{among};
+ghost use Rattle.running_client.specs.Cached.{AllKept};
+ghost use Rattle.running_play.specs.Worked.{line_of, tag_of, less_by, MayWork, HasWorked};
+ghost use Rattle.running_play.specs.Cached.{DoneThrough};
 
+use block_cache::BlockCache;
 use call_machine::{Answer, ClientState};
 use client_seat::{Memory, Seat, TableNode};
 use key_hash::Placer;
 use map_model::Calls;
 use play_report::{Line, Lines, Tag};
 use race_io::Gate;
-use running_client::{Went, call_within};
+use running_client::{Went, call_through, law_saved_over_calls};
 use script_value::Script;
 use std::alloc::{AllocError, Global};
 use whole_calls::law_states_fit;
@@ -94,7 +98,7 @@ fn less_by(left: Option<u64>, verbs: u64) -> Option<u64>
     }
 }
 
-// The calls of a client, one after another, until all are answered or its verbs are done.
+// The calls of a client, one after another, through its cache where it has one, until all are answered or its verbs are done.
 fn do_calls<'a, P: Placer, G: Gate>(
     memory: &Memory<P>,
     gate: &G,
@@ -102,6 +106,7 @@ fn do_calls<'a, P: Placer, G: Gate>(
     calls: &Calls,
     stop: Option<u64>,
     node: &mut TableNode<'a, P>,
+    cache: &mut Option<BlockCache>,
     state: &mut ClientState,
     lines: &mut Lines,
 ) -> Result<(), AllocError>
@@ -109,12 +114,14 @@ fn do_calls<'a, P: Placer, G: Gate>(
     requires legal { MayStand (MayFollow node.old.home.setting) node.old.front }
     requires fits { Fits node.old.home.setting node.old.front node.old.client state.old }
     requires client { client ≡ node.old.client }
+    requires keeps { AllKept (among node.old.home.setting node.old.client) node.old.front cache.old }
     requires fresh { node.old.trace ≡ [] }
     requires none { lines.old.items ≡ [] }
     requires few { length calls.now.items ≤ 65536 }
-    ensures done { IfOk result (λ _. HasDone calls.now.items stop node.old state.old node.new lines.new.items) }
+    ensures done { IfOk result (λ _. DoneThrough calls.now.items stop node.old cache.old state.old node.new cache.new lines.new.items) }
     ensures home { node.new.home ≡ node.old.home }
 {
+    law_saved_over_calls();
     state.keep();
     let mut left = stop;
     for i in 0..calls.len() {
@@ -124,7 +131,15 @@ fn do_calls<'a, P: Placer, G: Gate>(
         lines.reserve()?;
         let number = (i + 1) as u32;
         gate.before(client, number);
-        let Went { answer, verbs } = call_within(memory, node, state, &calls.get(i), most_of(left));
+        let Went { answer, verbs } = call_through(
+            memory,
+            node,
+            cache,
+            state,
+            &calls.get(i),
+            most_of(left),
+        );
+        node.keep();
         lines.push(line_of(client, number, &answer))?;
         if answer.is_none() {
             return Ok(());
@@ -154,6 +169,7 @@ pub fn work<P: Placer, G: Gate>(
     let mut node = TableNode::of(memory, seat);
     node.keep();
     let mut lines = Lines::new(alloc);
+    let mut cache = None;
     do_calls(
         memory,
         gate,
@@ -161,6 +177,7 @@ pub fn work<P: Placer, G: Gate>(
         script.calls(client),
         script.stop(client),
         &mut node,
+        &mut cache,
         &mut state,
         &mut lines,
     )?;
