@@ -5,6 +5,6 @@ mod Losing
 pub mod Runs
 pub mod Answered
 mod Fresh
-mod Passing
+pub mod Passing
 pub mod Done
 mod Saved

@@ -1,28 +1,31 @@
 -- A worker with a cache, call by call.
-use Rattle.std.specs.Prelude.{◌≡◌, ℕ, ◌+◌, ◌<◌, ◌≤◌, ◌^◌, List, [], ◌∷◌, ◌++◌, length, slice_get, Option, Some, None, is_some, true, false, MatchOption, refl}
+use Rattle.std.specs.Prelude.{◌≡◌, ℕ, ◌+◌, ◌≤◌, ◌^◌, List, [], ◌∷◌, ◌++◌, length, slice_get, Option, Some, None, is_some, true, false, MatchOption, refl}
 use Rattle.std.proofs.Common.{sym, ◌∙◌, ap, subst, arith, append-nil}
 use Rattle.map_model.specs.declared.calls.Call.{Call}
 use Rattle.node_words.specs.declared.geometry.Geometry.{Geometry}
 use Rattle.verb_log.specs.declared.entry.Verb.{Verb}
 use Rattle.verbs.specs.Programs.{Act}
 use Rattle.verbs.specs.Logs.{Entries, Begins}
+use Rattle.verbs.specs.Terms.{Terms}
 use Rattle.play_report.specs.declared.report.Line.{Line}
+use Rattle.script_value.specs.Content.{ScriptValue, calls_at, stop_at}
 use Rattle.client_seat.specs.declared.view.Deed.{Deed}
 use Rattle.client_seat.specs.Traces.{AreAt, verbs_in}
 use Rattle.client_seat.specs.Seated.{Home, Seated}
 use Rattle.client_seat.proofs.Traces.{are_at-longer}
 use Rattle.call_texts.specs.State.{State}
 use Rattle.call_machine.specs.declared.answer.Answer.{Answer}
+use Rattle.call_machine.specs.Fresh.{fresh_state}
 use Rattle.block_cache.specs.Cache.{Cache}
-use Rattle.running_client.specs.Called.{Called, Stopped, CameTo}
-use Rattle.running_client.specs.Cached.{acts_of_call, went_all, Through}
-use Rattle.running_client.specs.Through.{with_trace, CalledThrough, StoppedThrough, CameThrough}
+use Rattle.running_client.specs.Called.{CameTo}
+use Rattle.running_client.specs.Cached.{acts_of_call, went_all, saved_by, AllKept, Through}
+use Rattle.running_client.proofs.Passing.{fresh_kept}
+use Rattle.running_client.specs.Through.{with_trace, CameThrough}
 use Rattle.running_client.specs.Saving.{GoOnThrough}
 use Rattle.running_client.proofs.Answered.{all_done}
-use Rattle.run_laws.specs.Lives.{Lives, lives_none, lives_more}
-use Rattle.running_play.specs.Worked.{line_of, less_by, HasDone}
-use Rattle.running_play.specs.Cached.{acts_by, acts_done, DoneThrough}
-use Rattle.running_play.proofs.Working.{Living, living_none, living_more, done_stopped, done_all, done_open}
+use Rattle.running_play.specs.Worked.{line_of, less_by, HasDone, HasWorked}
+use Rattle.running_play.specs.Cached.{acts_by, DoneThrough, cache_of, HasWorkedThrough}
+use Rattle.running_play.proofs.Working.{Living, living_none, living_more, done_stopped, done_all, done_open, done_client}
 
 -- the filled trace after a call: with no cache the seat's own
 abbrev more_of : Option Cache → List Deed → List Deed → List Deed → List Deed
@@ -225,3 +228,35 @@ module _ (calls : List Call) (stop : Option ℕ) (begin : Seated) (cache : Optio
 -- with no cache, the seat's own trace is the filled one
 pub done_plain : (calls : List Call) (stop : Option ℕ) (begin : Seated) (first : State) (next : Seated) (after : Option Cache) (lines : List Line) → DoneThrough calls stop begin None first next after lines → HasDone calls stop begin first next lines
 done_plain calls stop begin first next after lines h = subst (λ (d : List Deed). HasDone calls stop begin first (with_trace next d) lines) (h.alone refl) h.done
+
+-- a fresh cache keeps nothing
+pub fresh_kept_of : (t : Terms) (l : Entries) (blocks : Option ℕ) → AllKept t l (cache_of blocks)
+fresh_kept_of t l None = tt
+fresh_kept_of t l (Some blocks) = fresh_kept t l blocks
+
+-- of the seat that a worker began with
+pub worked_through : (home : Home) (script : ScriptValue) (seat begin next last : Seated) (blocks : Option ℕ) (cache after : Option Cache) (first : State) (lines : List Line) (number saved : ℕ) (calls : List Call) (stop : Option ℕ) → number ≡ seat.client → begin ≡ seat → last ≡ next → seat.home ≡ home → next.home ≡ begin.home
+    → calls ≡ calls_at script.content number → stop ≡ stop_at script.content number → first ≡ fresh_state home.setting.geometry number script.tries → cache ≡ cache_of blocks → saved ≡ saved_by after
+    → DoneThrough calls stop begin cache first next after lines → HasWorkedThrough home script seat blocks last lines saved
+worked_through home script seat begin next last blocks cache after first lines number saved calls stop same is left here kept calls_is stop_is first_is cache_is saved_is h = record {
+  home_is = ap (λ (s : Seated). s.home) left ∙ kept ∙ ap (λ (s : Seated). s.home) is ∙ here;
+  client = ap (λ (s : Seated). s.client) left ∙ done_client calls stop begin first (with_trace next h.filled) lines h.done ∙ ap (λ (s : Seated). s.client) is;
+  after = after;
+  saved_is = saved_is;
+  done =
+      subst (λ s. DoneThrough (calls_at script.content seat.client) (stop_at script.content seat.client) s (cache_of blocks) (fresh_state home.setting.geometry seat.client script.tries) last after lines) is
+      (subst (λ n. DoneThrough (calls_at script.content n) (stop_at script.content n) begin (cache_of blocks) (fresh_state home.setting.geometry n script.tries) last after lines) same
+      (subst (λ s. DoneThrough (calls_at script.content number) (stop_at script.content number) begin (cache_of blocks) (fresh_state home.setting.geometry number script.tries) s after lines) (sym left)
+      (subst (λ k. DoneThrough (calls_at script.content number) (stop_at script.content number) begin (cache_of blocks) k next after lines) first_is
+      (subst (λ o. DoneThrough (calls_at script.content number) (stop_at script.content number) begin o first next after lines) cache_is
+      (subst (λ o. DoneThrough (calls_at script.content number) o begin cache first next after lines) stop_is
+      (subst (λ l. DoneThrough l stop begin cache first next after lines) calls_is h))))));
+}
+
+-- with no cache: as a worker without
+pub worked_plain : (home : Home) (script : ScriptValue) (seat next : Seated) (lines : List Line) (saved : ℕ) → HasWorkedThrough home script seat None next lines saved → HasWorked home script seat next lines
+worked_plain home script seat next lines saved h = record {
+  home_is = h.home_is;
+  client = h.client;
+  done = done_plain (calls_at script.content seat.client) (stop_at script.content seat.client) seat (fresh_state home.setting.geometry seat.client script.tries) next h.after lines h.done;
+}

@@ -2,4 +2,4 @@ mod Working
 mod Dealing
 mod Gathering
 mod Giving
-mod Filling
+pub mod Filling

@@ -4,19 +4,17 @@ use Rattle.std.proofs.Common.{sym, ◌∙◌, ap, subst, inl, inr, arith, append
 use Rattle.map_model.specs.declared.calls.Call.{Call}
 use Rattle.verb_log.specs.declared.entry.Verb.{Verb}
 use Rattle.play_report.specs.declared.report.Line.{Line}
-use Rattle.script_value.specs.Content.{ScriptValue, calls_at, stop_at}
 use Rattle.script_value.specs.Valid.{call_count}
 use Rattle.client_seat.specs.declared.view.Deed.{Deed}
 use Rattle.client_seat.specs.Traces.{verbs_in}
-use Rattle.client_seat.specs.Seated.{Home, Seated}
+use Rattle.client_seat.specs.Seated.{Seated}
 use Rattle.call_texts.specs.State.{State}
 use Rattle.call_machine.specs.declared.answer.Answer.{Answer}
-use Rattle.call_machine.specs.Fresh.{fresh_state}
 use Rattle.world_texts.proofs.Bounds.{acts_few}
 use Rattle.running_client.specs.Called.{CameTo}
 use Rattle.run_laws.specs.Lives.{Lives, lives_none, lives_more}
 use Rattle.run_laws.proofs.Living.{lives_seat}
-use Rattle.running_play.specs.Worked.{line_of, lines_of, less_by, Tells, all_told, one_open, HasDone, HasWorked}
+use Rattle.running_play.specs.Worked.{line_of, lines_of, less_by, Tells, all_told, one_open, HasDone}
 
 -- a client that may do so many verbs in all has done these, and these are left
 abbrev pub IsLeft : Option ℕ → Option ℕ → ℕ → Type 0
@@ -197,24 +195,9 @@ came_few None seat state call most verbs next kept e came = absurd (cc)
 came_few (Some a) seat state call most verbs next kept e came = came.2
 
 -- of the seat that a worker began with
-done_client : (calls : List Call) (stop : Option ℕ) (begin : Seated) (first : State) (next : Seated) (lines : List Line) → HasDone calls stop begin first next lines → next.client ≡ begin.client
+pub done_client : (calls : List Call) (stop : Option ℕ) (begin : Seated) (first : State) (next : Seated) (lines : List Line) → HasDone calls stop begin first next lines → next.client ≡ begin.client
 done_client calls stop begin first next lines h = by next h.more h.tells
   where
     by : (next : Seated) (more : List Line) → Tells calls h.answered h.last h.kept next more → next.client ≡ begin.client
     by next more all_told = (lives_seat calls begin first h.answered h.last h.kept h.answers h.lives).1
     by next more (one_open call next2 at stopped longer) = stopped.client ∙ (lives_seat calls begin first h.answered h.last h.kept h.answers h.lives).1
-
-pub has_worked : (home : Home) (script : ScriptValue) (seat begin next last : Seated) (first : State) (lines : List Line) (number : ℕ) (calls : List Call) (stop : Option ℕ) → number ≡ seat.client → begin ≡ seat → last ≡ next → seat.home ≡ home → next.home ≡ begin.home
-    → calls ≡ calls_at script.content number → stop ≡ stop_at script.content number → first ≡ fresh_state home.setting.geometry number script.tries
-    → HasDone calls stop begin first next lines → HasWorked home script seat last lines
-has_worked home script seat begin next last first lines number calls stop same is left here kept calls_is stop_is first_is h = record {
-  home_is = ap (λ (s : Seated). s.home) left ∙ kept ∙ ap (λ (s : Seated). s.home) is ∙ here;
-  client = ap (λ (s : Seated). s.client) left ∙ done_client calls stop begin first next lines h ∙ ap (λ (s : Seated). s.client) is;
-  done =
-      subst (λ s. HasDone (calls_at script.content seat.client) (stop_at script.content seat.client) s (fresh_state home.setting.geometry seat.client script.tries) last lines) is
-      (subst (λ n. HasDone (calls_at script.content n) (stop_at script.content n) begin (fresh_state home.setting.geometry n script.tries) last lines) same
-      (subst (λ s. HasDone (calls_at script.content number) (stop_at script.content number) begin (fresh_state home.setting.geometry number script.tries) s lines) (sym left)
-      (subst (λ k. HasDone (calls_at script.content number) (stop_at script.content number) begin k next lines) first_is
-      (subst (λ o. HasDone (calls_at script.content number) o begin first next lines) stop_is
-      (subst (λ l. HasDone l stop begin first next lines) calls_is h)))));
-}

@@ -1,20 +1,21 @@
 -- What a worker whose client may have a cache of blocks does and tells.
-use Rattle.std.specs.Prelude.{◌≡◌, ℕ, List, [], ◌++◌, Option, Some, None}
+use Rattle.std.specs.Prelude.{◌≡◌, ℕ, ◌≤◌, List, [], ◌++◌, Option, Some, None}
 use Rattle.map_model.specs.declared.calls.Call.{Call}
 use Rattle.play_report.specs.declared.report.Line.{Line}
-use Rattle.script_value.specs.Content.{ScriptValue}
+use Rattle.script_value.specs.Content.{ScriptValue, calls_at, stop_at}
 use Rattle.verbs.specs.Programs.{Act}
 use Rattle.client_seat.specs.declared.view.Deed.{Deed}
 use Rattle.client_seat.specs.Traces.{AreAt}
 use Rattle.client_seat.specs.Seated.{Home, Seated}
 use Rattle.call_texts.specs.State.{State}
 use Rattle.call_machine.specs.declared.answer.Answer.{Answer}
+use Rattle.call_machine.specs.Fresh.{fresh_state}
 use Rattle.block_cache.specs.Cache.{Cache}
 use Rattle.running_client.specs.Cached.{acts_of_call, saved_by, Through}
 use Rattle.running_client.specs.Through.{with_trace}
 use Rattle.running_client.specs.Saving.{empty_cache}
 use Rattle.run_laws.specs.Lives.{Lives, lives_none, lives_more}
-use Rattle.running_play.specs.Worked.{Tells, all_told, one_open, HasDone, HasWorked}
+use Rattle.running_play.specs.Worked.{Tells, all_told, one_open, HasDone}
 
 -- the acts of answered calls, in order: those of their texts
 abbrev pub acts_by : {calls : List Call} {begin : Seated} {first : State} {n : ℕ} {seat : Seated} {state : State} {answers : List Answer} → Lives calls begin first n seat state answers → List (Act × ℕ)
@@ -44,3 +45,17 @@ pub record DoneThrough (calls : List Call) (stop : Option ℕ) (begin : Seated) 
   pub alone : cache ≡ None → filled ≡ next.trace
   pub at : AreAt begin.home.setting.geometry next.front 0 filled
   pub through : Through begin cache (acts_done done) next after
+
+-- so many blocks may be kept, or there is no cache
+abbrev pub MayKeep : Option ℕ → Type 0
+MayKeep None = Unit {0}
+MayKeep (Some blocks) = (1 ≤ blocks) × (blocks ≤ 1024)
+
+-- a worker has played the calls of its client at this seat, through a cache of so many blocks where there is one, which has served so
+-- many reads
+pub record HasWorkedThrough (home : Home) (script : ScriptValue) (seat : Seated) (blocks : Option ℕ) (next : Seated) (lines : List Line) (saved : ℕ) : Type 0 where
+  pub home_is : next.home ≡ home
+  pub client : next.client ≡ seat.client
+  pub after : Option Cache
+  pub done : DoneThrough (calls_at script.content seat.client) (stop_at script.content seat.client) seat (cache_of blocks) (fresh_state home.setting.geometry seat.client script.tries) next after lines
+  pub saved_is : saved ≡ saved_by after

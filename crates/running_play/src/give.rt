@@ -13,7 +13,11 @@ fn give_back(seats: &mut Seats, mut all: Vec<Worked>)
     ensures home { seats.new.home ≡ seats.old.home }
 {
     while let Some(worked) = all.pop() {
-        let Worked { seat, lines: _ } = worked;
+        let Worked {
+            seat,
+            lines: _,
+            saved: _,
+        } = worked;
         seats.give(seat);
     }
 }

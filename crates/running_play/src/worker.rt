@@ -4,9 +4,9 @@ ghost use Rattle.verbs.specs.Logs.{MayStand};
 ghost use Rattle.race_laws.specs.Legal.{MayFollow};
 ghost use Rattle.world_texts.specs.Fits.{Fits};
 ghost use Rattle.log_facts.specs.Among.{among};
-ghost use Rattle.running_client.specs.Cached.{AllKept};
-ghost use Rattle.running_play.specs.Worked.{line_of, tag_of, less_by, MayWork, HasWorked};
-ghost use Rattle.running_play.specs.Cached.{DoneThrough};
+ghost use Rattle.running_client.specs.Cached.{AllKept, saved_by};
+ghost use Rattle.running_play.specs.Worked.{line_of, tag_of, less_by, MayWork};
+ghost use Rattle.running_play.specs.Cached.{DoneThrough, MayKeep, cache_of, HasWorkedThrough};
 
 use block_cache::BlockCache;
 use call_machine::{Answer, ClientState};
@@ -28,6 +28,8 @@ const MOST_VERBS: u64 = 1 << 40;
 pub struct Worked {
     pub seat: Seat,
     pub lines: Lines,
+    /// How many reads its client's cache has served, up to the greatest number; 0 without a cache.
+    pub saved: u64,
 }
 
 // The tag of an answer.
@@ -149,27 +151,53 @@ fn do_calls<'a, P: Placer, G: Gate>(
     Ok(())
 }
 
-/// Plays the calls of a client of the script on its seat, which has done no verb: the client of the seat's number. Each call begins
-/// once the gate lets it. It fails only for want of memory.
+// A cache of so many blocks, or none.
+fn cache_of(alloc: Global, blocks: Option<u32>) -> Result<Option<BlockCache>, AllocError>
+    requires { MayKeep blocks }
+    ensures { IfOk result (λ cache. cache ≡ cache_of blocks) }
+{
+    match blocks {
+        Some(blocks) => {
+            let cache = BlockCache::make(alloc, blocks)?;
+            Ok(Some(cache))
+        }
+        None => Ok(None),
+    }
+}
+
+// How many reads a cache has served.
+fn saved_by(cache: &Option<BlockCache>) -> u64
+    ensures { result ≡ saved_by cache.now }
+{
+    match cache {
+        Some(cache) => cache.saved(),
+        None => 0,
+    }
+}
+
+/// Plays the calls of a client of the script on its seat, which has done no verb: the client of the seat's number, with a cache of
+/// so many blocks, 1 to 1,024, or none. Each call begins once the gate lets it. It fails only for want of memory.
 pub fn work<P: Placer, G: Gate>(
     alloc: Global,
     memory: &Memory<P>,
     gate: &G,
     script: &Script,
+    blocks: Option<u32>,
     seat: Seat,
 ) -> Result<Worked, AllocError>
-    requires { MayWork memory.now script.now seat }
-    ensures { IfOk result (λ worked. HasWorked memory.now script.now seat worked.seat worked.lines.items) }
+    requires may { MayWork memory.now script.now seat }
+    requires keep { MayKeep blocks }
+    ensures { IfOk result (λ worked. HasWorkedThrough memory.now script.now seat blocks worked.seat worked.lines.items worked.saved) }
 {
     law_states_fit();
     script.is_script();
     let client = seat.number();
     let geometry = memory.geometry();
     let mut state = ClientState::make(alloc, &geometry, client, script.tries())?;
+    let mut cache = cache_of(alloc, blocks)?;
     let mut node = TableNode::of(memory, seat);
     node.keep();
     let mut lines = Lines::new(alloc);
-    let mut cache = None;
     do_calls(
         memory,
         gate,
@@ -184,5 +212,6 @@ pub fn work<P: Placer, G: Gate>(
     Ok(Worked {
         seat: node.leave(),
         lines,
+        saved: saved_by(&cache),
     })
 }

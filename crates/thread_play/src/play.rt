@@ -31,7 +31,7 @@ fn have_worked<R: Threads + Sync, G: Gate>(
     ensures worked { IfOk result (λ all. HaveWorked memory.now script.now 0 all.items) }
     ensures many { IfOk result (λ all. length all.items ≡ length script.now.content.clients) }
 {
-    let results = work_all(rt, alloc, memory, gate, script, seats)?;
+    let results = work_all(rt, alloc, memory, gate, script, None, seats)?;
     gathered(alloc, results)
 }
 

@@ -27,7 +27,7 @@ loop-i-preserved g c =
     let items : List Worked = c.loop-i.all.items in
     let first : List Worked = c.args.all.now.items in
     let kept = c.note-note.ensures.same in
-    let back = ap (λ (s : Seated). let w : Worked = record { seat = s; lines = worked.lines } in w) kept in
+    let back = ap (λ (s : Seated). let w : Worked = record { seat = s; lines = worked.lines; saved = worked.saved } in w) kept in
     let longer = longer-begins (MayFollow c.loop-i.node.home.setting) c.loop-i.node.client c.loop-i.node.front c.meet.new.self.front c.meet.ensures.longer.1 in
     record {
       same = ap (slice_set items c.loop-i.i) (back ∙ c.index_mut-worked.ensures.value) ∙ set-get_or items c.loop-i.i _ ∙ inv.same;
