@@ -14,8 +14,8 @@ work_all-requires-clause-may g c κs within = λ i seat low at. may_work c.args.
 pub returns-clause-worked : goal.returns-clause-worked
 returns-clause-worked g c = if_ok _ _ c.gathered.result
     (λ all is. all_worked c.args.memory.now c.args.script.now c.args.seats.items _ _ c.in_ok-results.results.items all.items c.requires c.args.seats.ok.0 c.in_ok-results.ensures.many c.in_ok-results.results.ok.0 is (λ i d low.
-        let x = c.in_ok-results.ensures.each i d low in
-        (x.0, x.1, if_ok _ _ (slice_index_or c.in_ok-results.results.items i d) (λ (w : Worked) h. worked_plain c.args.memory.now c.args.script.now x.0 w.seat w.lines.items w.saved h) x.2)))
+    let x = c.in_ok-results.ensures.each i d low in
+    (x.0, x.1, if_ok _ _ (slice_index_or c.in_ok-results.results.items i d) (λ (w : Worked) h. worked_plain c.args.memory.now c.args.script.now x.0 w.seat w.lines.items w.saved h) x.2)))
     c.gathered.ensures
 
 pub returns-clause-many : goal.returns-clause-many
