@@ -36,8 +36,8 @@ impl CallMachine {
     ghost use Rattle.call_machine.specs.Tasks.{answer_in, call_end};
     ghost use Rattle.call_machine.specs.CallRest.{call_rest, call_of};
 
-    /// The machine of a client with this state that has not begun a call. It would be of this key.
-    pub fn idle(state: &ClientState, key: &Key) -> CallMachine {
+    // The machine of a client that has not begun a call: `begin` says what it is then, whatever it was before.
+    fn idle(state: &ClientState, key: &Key) -> CallMachine {
         CallMachine {
             task: Task::new(state, 0, key, Value::empty()),
             machines: Machines::idle(state.geometry, state.client, key),

@@ -1,4 +1,4 @@
-//! The command `image`: the image of one key, with sources and sinks that fail, and a table that is no image since a split is open.
+//! The command `image`: the image of one key, with sources and sinks that fail.
 
 use crate::plays::expect;
 use byteorder::{ByteOrder, LittleEndian};
@@ -13,18 +13,6 @@ const ONE_KEY_SCRIPT: &[u8] = b"race 1\n\
     insert k 1\n\
     search k\n\
     search j\n\
-    end\n";
-
-/// A client that stops inside its split, whose table is locked.
-const OPEN_SPLIT_SCRIPT: &[u8] = b"race 1\n\
-    table groups=1 depth=1 words=200 tries=3\n\
-    hash k 0000000000000001\n\
-    client s\n\
-    insert k 1\n\
-    client m\n\
-    resize k\n\
-    stop m 13\n\
-    schedule s! m!\n\
     end\n";
 
 /// How many numbers the image of one key has.
